@@ -1,0 +1,3 @@
+pub mod ParameterLaws
+pub mod PlateLaws
+pub mod Combinations

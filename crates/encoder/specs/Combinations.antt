@@ -1,0 +1,80 @@
+-- Class bit, scaling bit and code sequence bit in every combination, as a table to hold against document 01: "Scaling is in force when the
+-- class bit and the scaling bit are both 1. Then M is the revolution units and L the total range. Otherwise M = R and L = C [..]. With the
+-- class bit 0 no preset is made; class 2 still obeys the code sequence, class 4 does not."
+-- Assumes nothing.
+use Prim.Native.Nat.{ℕ}
+use mathlib.Core.Bool.{Bool, true, false}
+use mathlib.Core.List.{List, [], _∷_}
+use lib.ListN.{replicate}
+use Rattle.encoder.specs.declared.nameplate.Nameplate.{Nameplate}
+use Rattle.encoder.specs.declared.parameters.Parameters.{Parameters}
+use Rattle.encoder.specs.declared.parameters.Parameters.the-variants.{Class2, Class4}
+use Rattle.encoder.specs.declared.«in_force».Effect.{Effect}
+use Rattle.encoder.specs.declared.«in_force».Effect.the-variants.{Taken}
+
+-- R = 10, T = 3, so C = 30
+abbrev pub plate : Nameplate
+plate =
+    record { steps = record { 0 = 10 }; turns = record { 0 = 3 }; ident = 0; software = replicate 2 0; serial = replicate 10 0 }
+
+-- the octet with the bits, revolution units 4 and total range 7
+abbrev pub two : ℕ → Parameters
+two operating = Class2 operating (record { 0 = 4 }) (record { 0 = 7 })
+
+abbrev pub four : ℕ → Parameters
+four operating = Class4 operating (record { 0 = 4 }) (record { 0 = 7 }) 0 0
+
+-- parameters, and what the paper puts in force
+pub record Combination : Type 0 where
+  pub sent : Parameters
+  pub stated : Effect
+
+abbrev pub gives : Parameters → ℕ → ℕ → Bool → Bool → Combination
+gives p m l reversed active =
+    record {
+      sent = p;
+      stated =
+          Taken (
+          record {
+            steps = record { 0 = 10 };
+            capacity = record { 0 = 30 };
+            scale = record { 0 = m };
+            span = record { 0 = l };
+            reversed = reversed;
+            active = active;
+          }
+          );
+    }
+
+abbrev pub cw : Bool
+cw = false
+
+abbrev pub ccw : Bool
+ccw = true
+
+abbrev pub on : Bool
+on = true
+
+abbrev pub off : Bool
+off = false
+
+-- bit 0 is the code sequence, bit 1 the class, bit 3 scaling; bit 5 of class 4 is 1
+abbrev pub combinations : List Combination
+combinations =
+    gives (two 0x00) 10 30 cw off
+    ∷ gives (two 0x01) 10 30 ccw off
+    ∷ gives (two 0x02) 10 30 cw on
+    ∷ gives (two 0x03) 10 30 ccw on
+    ∷ gives (two 0x08) 10 30 cw off
+    ∷ gives (two 0x09) 10 30 ccw off
+    ∷ gives (two 0x0a) 4 7 cw on
+    ∷ gives (two 0x0b) 4 7 ccw on
+    ∷ gives (four 0x20) 10 30 cw off
+    ∷ gives (four 0x21) 10 30 cw off
+    ∷ gives (four 0x22) 10 30 cw on
+    ∷ gives (four 0x23) 10 30 ccw on
+    ∷ gives (four 0x28) 10 30 cw off
+    ∷ gives (four 0x29) 10 30 cw off
+    ∷ gives (four 0x2a) 4 7 cw on
+    ∷ gives (four 0x2b) 4 7 ccw on
+    ∷ []

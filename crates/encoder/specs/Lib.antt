@@ -1,0 +1,5 @@
+pub mod Refusal
+pub mod Nameplate
+pub mod Parameters
+pub mod InForce
+pub mod Combinations

@@ -1,0 +1,4 @@
+pub mod Signed
+pub mod Modulus
+pub mod Clamp
+pub mod Octets

@@ -1,0 +1,55 @@
+-- What the loops over octets keep, and what a part of a telegram reads as.
+-- Assumes nothing.
+use mathlib.Core.Path.{_≡_, refl}
+use mathlib.Core.Bool.{false}
+use mathlib.Core.List.{List, [], _∷_, _++_, append-assoc, append-nil}
+use Prim.Native.Nat.{ℕ, zero, suc, _+_, _-_, _*_, _/_, _%_, _^_, _<_, _≤_}
+use native.Mathlib.Omega.{arith}
+use native.Mathlib.Nat as N
+use native.Mathlib.Numerals.{add-one}
+use mir.Syntax.{w8}
+use mir.Val.{Fits}
+use lib.Bits.{bitAnd, and-mask}
+use lib.ListN.{length, getD, take, drop, set}
+use lib.Seq.{take-suc, take-all, drop-cons, drop-length, drop-set-lt, getD-set-same, lt-length-set}
+use Rattle.integer.specs.Octets.{bigEndian, octets}
+use Rattle.integer.specs.Bits.{bit}
+use Rattle.integer.proofs.Octets.{bigEndian-snoc, bigEndian-lt}
+
+-- the number of no octets, of one more, and of all
+pub number-none : 0 ≡ bigEndian [] % 2 ^ 32
+unfolding bigEndian
+number-none = refl
+
+pub number-more : (s : List ℕ) (i n : ℕ) → i < length s → Fits w8 (getD s i 0) → n ≡ bigEndian (take i s) % 2 ^ 32
+    → n % 2 ^ 24 * 256 + getD s i 0 ≡ bigEndian (take (i + 1) s) % 2 ^ 32
+number-more s i n h k e = rw (add-one, take-suc s i 0 h, bigEndian-snoc) (omega (arith, k .fits))
+
+pub number-all : (s : List ℕ) (i n : ℕ) → length s ≤ i → n ≡ bigEndian (take i s) % 2 ^ 32 → n ≡ bigEndian s % 2 ^ 32
+number-all s i n h e = rw (take-all i s h) at e
+
+-- octets still to be written in front of those that are: at first, one further, and at the end
+pub put-none : (s : List ℕ) (n : ℕ) → octets (length s) n ++ drop (length s) s ≡ octets (length s) n
+put-none s n = rw (drop-length, append-nil)
+
+pub put-more : (s l : List ℕ) (i n : ℕ) → 0 < i → i ≤ length s → octets i n ++ drop i s ≡ l
+    → octets (i - 1) (n / 256) ++ drop (i - 1) (set s (i - 1) (n % 256)) ≡ l
+unfolding octets
+put-more s l zero n k h e = absurd (omega arith)
+put-more s l (suc i) n k h e =
+    let j : suc i - 1 ≡ i = omega arith in
+    let o = n % 256 in
+    rw (j, drop-cons (set s i o) i 0 (lt-length-set s i o h), getD-set-same s i o 0 h, drop-set-lt (suc i) s i o (N.le-refl (suc i)))
+    (rw append-assoc at e)
+
+pub put-all : (s l : List ℕ) (i n : ℕ) → i ≤ 0 → octets i n ++ drop i s ≡ l → s ≡ l
+unfolding octets
+put-all s l zero n h e = e
+put-all s l (suc i) n h e = absurd (omega arith)
+
+-- a bit past the word's end is 0, and a mask of one bit is a remainder
+pub bit-past : (n w : ℕ) → w < 2 ^ 32 → 32 ≤ n → false ≡ bit n w
+bit-past n w h k = rw (N.div-eq-of-lt (N.lt-of-lt-of-le h (N.pow-le-pow-right {n = 2} (omega arith) k)))
+
+pub low-bit : (m : ℕ) → bitAnd m 1 ≡ m % 2
+low-bit m = and-mask m 1

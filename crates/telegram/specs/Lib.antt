@@ -1,0 +1,3 @@
+pub mod Read
+pub mod Write
+pub mod RoundTrip

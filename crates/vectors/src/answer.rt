@@ -1,0 +1,83 @@
+// Answers in words: what is in force, the octets of a buffer, or the number of the refusal.
+use encoder::in_force::Effect;
+use encoder::in_force::InForce;
+use encoder::in_force::in_force;
+use encoder::nameplate::Nameplate;
+use libc::STDOUT_FILENO;
+use telegram::read::Received;
+use telegram::write::Written;
+
+// A reader's answer, with what the parameters put in force on the nameplate.
+pub(crate) fn received(plate: Nameplate, answer: Received) {
+    match answer {
+        Received::Taken(parameters) => effect(in_force(plate, parameters)),
+        Received::Refused(n) => refused(n),
+    }
+}
+
+fn effect(answer: Effect) {
+    match answer {
+        Effect::Taken(rules) => taken(rules),
+        Effect::Refused(n) => refused(n),
+    }
+}
+
+fn taken(rules: InForce) {
+    text(b"  M ");
+    decimal(rules.scale.0 as u64);
+    text(b" L ");
+    decimal(rules.span.0 as u64);
+    if rules.reversed {
+        text(b" ccw");
+    } else {
+        text(b" cw");
+    }
+    if rules.active {
+        line(b" on");
+    } else {
+        line(b" off");
+    }
+}
+
+// The writer's answer, with the buffer as it left it.
+pub(crate) fn written(answer: Written, buffer: &[u8]) {
+    match answer {
+        Written::Done => line(b"  done"),
+        Written::Refused(n) => refused(n),
+    }
+    text(b" ");
+    octets(buffer);
+    line(b"");
+}
+
+fn octets(buffer: &[u8]) {
+    let mut i = 0;
+    while i < buffer.len() {
+        octet(buffer[i]);
+        i += 1;
+    }
+}
+
+fn octet(o: u8) {
+    text(b" ");
+    io::print_hex(STDOUT_FILENO, o as u64, 2);
+}
+
+fn refused(n: u8) {
+    text(b"  refused ");
+    decimal(n as u64);
+    line(b"");
+}
+
+fn decimal(n: u64) {
+    io::print_decimal(STDOUT_FILENO, n);
+}
+
+pub(crate) fn line(s: &[u8]) {
+    text(s);
+    text(b"\n");
+}
+
+fn text(s: &[u8]) {
+    io::write_all(STDOUT_FILENO, s);
+}

@@ -1,0 +1,127 @@
+// One vector a line: a word of eight columns for what is called, R, T and the ident number of the nameplate, and what it is called on.
+// Octets and the ident number are hexadecimal, other numbers decimal.
+ghost use Rattle.io.specs.Counts.{Counts};
+use crate::answer;
+use crate::parse::decimal;
+use crate::parse::hexadecimal;
+use crate::parse::past_blanks;
+use encoder::nameplate::Nameplate;
+use encoder::parameters::Parameters;
+use encoder::quantity::Steps;
+use encoder::quantity::Turns;
+use encoder::quantity::Units;
+use telegram::read::read_block;
+use telegram::read::read_telegram;
+use telegram::write::write_parameters;
+
+// Writes the line, and below it the answer.
+pub(crate) fn run(line: &[u8]) {
+    answer::line(line);
+    if line.len() < 8 {
+        return;
+    }
+    match line[0] {
+        b't' => telegram(line),
+        b'b' => block(line),
+        b'w' => write(line),
+        _ => {}
+    }
+}
+
+// `telegram`: the octets of a class 2 telegram, to be read.
+fn telegram(line: &[u8]) {
+    let head = nameplate(line);
+    let plate = head.plate;
+    let mut buffer = [0u8; 64];
+    let n = octets(line, head.next, &mut buffer);
+    answer::received(plate, read_telegram(plate, &buffer[..n]));
+}
+
+// `block`: the octets of a class 4 block, to be read.
+fn block(line: &[u8]) {
+    let head = nameplate(line);
+    let plate = head.plate;
+    let mut buffer = [0u8; 64];
+    let n = octets(line, head.next, &mut buffer);
+    answer::received(plate, read_block(plate, &buffer[..n]));
+}
+
+// `write 2` and `write 4`: the length of a buffer that holds EEh, and the fields in the order of the telegram or the block, to be written.
+fn write(line: &[u8]) {
+    let head = nameplate(line);
+    let plate = head.plate;
+    let size = decimal(line, head.next);
+    let parameters = parameters(line, size.next);
+    let n = size.value as usize;
+    let mut buffer = [0xee; 64];
+    if n <= 64 {
+        fill(plate, parameters, &mut buffer[..n]);
+    }
+}
+
+fn fill(plate: Nameplate, parameters: Parameters, buffer: &mut [u8]) {
+    let answer = write_parameters(plate, parameters, buffer);
+    answer::written(answer, buffer);
+}
+
+fn parameters(line: &[u8], from: usize) -> Parameters {
+    let operating = hexadecimal(line, from);
+    let units = decimal(line, operating.next);
+    let range = decimal(line, units.next);
+    let life = decimal(line, range.next);
+    let speed = decimal(line, life.next);
+    if line.len() < 8 || line[6] == b'2' {
+        return Parameters::Class2 {
+            operating: (operating.value % 256) as u8,
+            units: Units(units.value),
+            range: Units(range.value),
+        };
+    }
+    Parameters::Class4 {
+        operating: (operating.value % 256) as u8,
+        units: Units(units.value),
+        range: Units(range.value),
+        life: (life.value % 256) as u8,
+        speed: (speed.value % 256) as u8,
+    }
+}
+
+struct Plated {
+    plate: Nameplate,
+    next: usize,
+}
+
+fn nameplate(line: &[u8]) -> Plated {
+    let steps = decimal(line, 8);
+    let turns = decimal(line, steps.next);
+    let ident = hexadecimal(line, turns.next);
+    let plate = Nameplate {
+        steps: Steps(steps.value as u64),
+        turns: Turns(turns.value),
+        ident: (ident.value % 65536) as u16,
+        software: [0; 2],
+        serial: [0; 10],
+    };
+    Plated {
+        plate,
+        next: ident.next,
+    }
+}
+
+// Puts the octets of a line at the front of out, and answers how many there are.
+fn octets(line: &[u8], from: usize, out: &mut [u8]) -> usize
+    ensures { λ r. ⌜ Counts r (now (out .exit)) ⌝ }
+{
+    let mut at = past_blanks(line, from);
+    let mut n = 0;
+    while n < out.len() {
+        if line.len() <= at {
+            return n;
+        }
+        let octet = hexadecimal(line, at);
+        out[n] = (octet.value % 256) as u8;
+        at = past_blanks(line, octet.next);
+        n += 1;
+    }
+    n
+}
