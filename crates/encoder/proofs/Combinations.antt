@@ -2,7 +2,6 @@
 -- Assumes nothing.
 use mathlib.Core.Path.{_≡_, refl}
 use mathlib.Core.List.{map}
-use Rattle.encoder.specs.declared.«in_force».Effect.{Effect}
 use Rattle.encoder.specs.Parameters.{fieldsRefusal, refusalOn}
 use Rattle.encoder.specs.InForce.{rulesOf, inForce}
 use Rattle.encoder.specs.Combinations.{Combination, plate, combinations}

@@ -1,3 +1,6 @@
-pub mod ParameterLaws
+pub mod RefusalLaws
 pub mod PlateLaws
+pub mod OperatingLaws
+pub mod ParameterLaws
+pub mod ForceLaws
 pub mod Combinations

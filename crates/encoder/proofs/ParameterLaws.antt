@@ -1,22 +1,23 @@
 -- What each way out of the functions on parameters has shown: a law a way, its premises the tests and calls on that way.
 -- Assumes nothing.
-use mathlib.Core.Path.{_≡_, refl, sym, _∙_}
+use mathlib.Core.Path.{_≡_, refl}
 use mathlib.Core.Bool.{Bool, true, false, cond, not, _&&_, _||_}
-use Prim.Native.Nat.{ℕ, _*_, _/_, _≤_, _<_}
+use Prim.Native.Nat.{ℕ, _*_, _≤_, _<_}
 use native.Mathlib.Omega.{arith}
 use native.Mathlib.Nat as N
 use lib.Dec.{eqb, ltb}
-use borrow.Author.Tests.{lt-ltb, le-ltb, not-false, not-true}
+use borrow.Author.Tests.{lt-ltb, le-ltb}
 use mir.Syntax.{w64, w32}
 use mir.Val.{Fits}
-use Rattle.integer.specs.Bits.{bit}
 use Rattle.encoder.specs.declared.nameplate.Nameplate.{Nameplate}
 use Rattle.encoder.specs.declared.quantity.Units.{Units}
 use Rattle.encoder.specs.declared.parameters.Parameters.{Parameters}
 use Rattle.encoder.specs.declared.parameters.Parameters.the-variants.{Class2, Class4}
 use Rattle.encoder.specs.declared.parameters.Fields.{Fields}
 use Rattle.encoder.specs.Nameplate.{plateFits}
-use Rattle.encoder.specs.Parameters.{fieldsOf, classOn, scalingOn, reversedBy, reservedWrong, fieldsRefusal, parametersRefusal, refusalOn}
+use Rattle.encoder.specs.Operating.{scalingOn, reservedWrong}
+use Rattle.encoder.specs.Parameters.{fieldsOf, fieldsRefusal, parametersRefusal, refusalOn}
+use Rattle.encoder.proofs.PlateLaws.{plate-failed, plate-passed}
 
 -- ---- the fields of either class
 pub fields-two : (p : Parameters) (o : ℕ) (u r : Units) → p ≡ Class2 o u r
@@ -26,20 +27,6 @@ fields-two p o u r e = rw e
 pub fields-four : (p : Parameters) (o : ℕ) (u r : Units) (l s : ℕ) → p ≡ Class4 o u r l s
     → record { four = true; operating = o; units = u; range = r; speed = s } ≡ fieldsOf p
 fields-four p o u r l s e = rw e
-
--- ---- the bits
-module _ (f : Fields) where
-  pub reserved-two : f .four ≡ false → not (eqb (f .operating / 16) 0) ≡ reservedWrong f
-  reserved-two e = rw e
-
-  pub reserved-four : f .four ≡ true → not (eqb (f .operating / 32) 1) ≡ reservedWrong f
-  reserved-four e = rw e
-
-  pub scaling-is : (a b : Bool) → a ≡ classOn f → b ≡ bit 3 (f .operating) → (a && b) ≡ scalingOn f
-  scaling-is a b p q = rw (p, q)
-
-  pub reversed-is : (a b : Bool) → a ≡ bit 0 (f .operating) → b ≡ classOn f → (a && (not (f .four) || b)) ≡ reversedBy f
-  reversed-is a b p q = rw (p, q)
 
 -- ---- the refusals in their order, by the tests r of the reserved bits and s of scaling
 -- a product of two numbers of 32 bits
@@ -58,16 +45,16 @@ abbrev rangeTest : Nameplate → Fields → Bool → Bool
 rangeTest n f s = s && (ltb (f .range .0) (f .units .0) || ltb (f .units .0 * n .turns .0) (f .range .0))
 
 module _ (n : Nameplate) (f : Fields) (r s : Bool) where
-  pub refused-3 : r ≡ true → r ≡ reservedWrong f → 3 ≡ fieldsRefusal n f
+  pub refused-3 : r ≡ true → r ≡ reservedWrong (f .four) (f .operating) → 3 ≡ fieldsRefusal n f
   unfolding fieldsRefusal
   refused-3 t e = rw (← e, t)
 
-  module _ (r-no : r ≡ false) (r-is : r ≡ reservedWrong f) where
-    pub refused-4 : unitsTest n f s ≡ true → s ≡ scalingOn f → 4 ≡ fieldsRefusal n f
+  module _ (r-no : r ≡ false) (r-is : r ≡ reservedWrong (f .four) (f .operating)) where
+    pub refused-4 : unitsTest n f s ≡ true → s ≡ scalingOn (f .operating) → 4 ≡ fieldsRefusal n f
     unfolding fieldsRefusal
     refused-4 t s-is = rw (← r-is, r-no, ← s-is, t)
 
-    module _ (u-no : unitsTest n f s ≡ false) (s-is : s ≡ scalingOn f) where
+    module _ (u-no : unitsTest n f s ≡ false) (s-is : s ≡ scalingOn (f .operating)) where
       pub refused-5 : rangeTest n f s ≡ true → 5 ≡ fieldsRefusal n f
       unfolding fieldsRefusal
       refused-5 t = rw (← r-is, r-no, ← s-is, u-no, t)
@@ -81,21 +68,20 @@ module _ (n : Nameplate) (f : Fields) (r s : Bool) where
         unfolding fieldsRefusal
         refused-none t = rw (← r-is, r-no, ← s-is, u-no, l-no, le-ltb _ _ t)
 
--- ---- on any nameplate, by its test
-module _ (n : Nameplate) (p : Parameters) (fits : Bool) where
-  pub on-7 : not fits ≡ true → fits ≡ plateFits n → 7 ≡ refusalOn n p
+-- ---- on any nameplate
+module _ (n : Nameplate) (p : Parameters) where
+  pub on-7 : plateFits n ≡ false → 7 ≡ refusalOn n p
   unfolding refusalOn
-  on-7 failed is = rw (← is, not-true fits failed)
+  on-7 failed = rw failed
 
-  pub on-fields : (f : Fields) (k : ℕ) → not fits ≡ false → fits ≡ plateFits n → k ≡ fieldsRefusal n f → f ≡ fieldsOf p → k ≡ refusalOn n p
+  pub on-plate : plateFits n ≡ true → refusalOn n p ≡ parametersRefusal n p
   unfolding refusalOn
-  on-fields f k passed is k-is f-is = rw (← is, not-false fits passed, ← f-is, k-is)
+  on-plate passed = rw passed
 
--- on one within its limits nothing comes before the parameters' own refusals, and only on such a one are parameters taken
-pub on-plate : (n : Nameplate) (p : Parameters) → plateFits n ≡ true → refusalOn n p ≡ parametersRefusal n p
-unfolding refusalOn
-on-plate n p h = rw h
+  pub on-fields : (f : Fields) (k : ℕ) → k ≡ fieldsRefusal n f → f ≡ fieldsOf p → plateFits n ≡ true → k ≡ refusalOn n p
+  on-fields f k k-is f-is passed = rw (on-plate passed, ← f-is, k-is)
 
+-- only on one within its limits are parameters taken
 pub taken-plate : (n : Nameplate) (p : Parameters) → refusalOn n p ≡ 0 → plateFits n ≡ true
 unfolding refusalOn
 taken-plate n p e = by (plateFits n) (parametersRefusal n p) e
@@ -104,8 +90,8 @@ taken-plate n p e = by (plateFits n) (parametersRefusal n p) e
     by true k h = refl
     by false k h = absurd (omega arith)
 
-pub ruleset fields = (fields-two, fields-four, reserved-two, reserved-four, scaling-is, reversed-is)
+pub ruleset fields = (fields-two, fields-four)
 
 pub ruleset refusals = (fits-product, refused-3, refused-4, refused-5, refused-6, refused-none)
 
-pub ruleset refusals-on = (on-7, on-fields)
+pub ruleset refusals-on = (plate-failed, plate-passed, on-7, on-fields)

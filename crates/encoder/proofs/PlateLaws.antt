@@ -1,30 +1,25 @@
--- What holds of a nameplate within its limits, and what is in force on it, at each way out.
+-- The test of a nameplate, and what holds of one within its limits: its bounds, one by one, and that its capacity fits.
 -- Assumes nothing.
 use mathlib.Core.Path.{_≡_, refl, sym, _∙_}
-use mathlib.Core.Bool.{Bool, true, false, _&&_, false≢true}
-use Prim.Native.Nat.{ℕ, zero, suc, _*_, _^_, _≤_}
+use mathlib.Core.Bool.{Bool, true, false, not, _&&_, false≢true}
+use Prim.Native.Nat.{_*_, _^_, _≤_}
 use native.Mathlib.Omega.{arith}
 use native.Mathlib.Nat as N
-use borrow.Author.Tests.{leb-true}
-use mir.Syntax.{w64, w32}
+use borrow.Author.Tests.{leb-true, not-false, not-true}
+use mir.Syntax.{w64}
 use mir.Val.{Fits}
-use Rattle.encoder.specs.declared.quantity.Steps.{Steps}
 use Rattle.encoder.specs.declared.nameplate.Nameplate.{Nameplate}
-use Rattle.encoder.specs.declared.parameters.Parameters.{Parameters}
-use Rattle.encoder.specs.declared.parameters.Fields.{Fields}
-use Rattle.encoder.specs.declared.«in_force».Effect.the-variants.{Taken, Refused}
-use Rattle.encoder.specs.Refusal.{answer}
 use Rattle.encoder.specs.Nameplate.{plateFits, capacityOf}
-use Rattle.encoder.specs.Parameters.{fieldsOf, classOn, scalingOn, reversedBy, refusalOn}
-use Rattle.encoder.specs.InForce.{rulesOf, inForce}
-use Rattle.encoder.proofs.ParameterLaws.{taken-plate}
 
--- an answer whose number is not 0 is a refusal
-pub refused-is : {A : Type 0} (refused : ℕ → A) (taken : A) (k : ℕ) → (k ≡ 0 → ⊥) → answer refused taken k ≡ refused k
-refused-is refused taken zero h = absurd (h refl)
-refused-is refused taken (suc k) h = refl
+-- the test of a nameplate, that failed and that passed
+module _ (n : Nameplate) (fits : Bool) where
+  pub plate-failed : not fits ≡ true → fits ≡ plateFits n → plateFits n ≡ false
+  plate-failed t e = sym e ∙ not-true fits t
 
--- the limits of a nameplate, as facts
+  pub plate-passed : not fits ≡ false → fits ≡ plateFits n → plateFits n ≡ true
+  plate-passed t e = sym e ∙ not-false fits t
+
+-- its limits
 pub record Plated (n : Nameplate) : Type 0 where
   pub steps-least : 2 ≤ n .steps .0
   pub steps-most : n .steps .0 ≤ 65536
@@ -56,30 +51,3 @@ module _ (n : Nameplate) (fits : plateFits n ≡ true) where
 
   pub capacity-is : (n .steps .0 * n .turns .0 ≡ capacityOf n) × (n .steps .0 * n .turns .0 ≤ 2 ^ 31)
   capacity-is = (refl, capacity-most)
-
--- ---- what is in force, by the number k of the refusal
-module _ (n : Nameplate) (p : Parameters) (k : ℕ) where
-  pub force-refused : (k ≡ 0 → ⊥) → k ≡ refusalOn n p → Refused k ≡ inForce n p
-  unfolding inForce
-  force-refused ne k-is = rw (← k-is, refused-is Refused (Taken (rulesOf n (fieldsOf p))) k ne)
-
-  module _ (none : k ≡ 0) (k-is : k ≡ refusalOn n p) where
-    pub force-plate : plateFits n ≡ true
-    force-plate = taken-plate n p (sym k-is ∙ none)
-
-    pub force-steps : Fits w32 (n .steps .0)
-    force-steps = record { fits = omega (arith, plated n force-plate) }
-
-    module _ (f : Fields) (f-is : f ≡ fieldsOf p) (c : Steps) (s v a : Bool) where
-      pub force-on : s ≡ true → s ≡ scalingOn f → c .0 ≡ capacityOf n → v ≡ reversedBy f → a ≡ classOn f
-          → Taken (record { steps = n .steps; capacity = c; scale = f .units; span = f .range; reversed = v; active = a }) ≡ inForce n p
-      unfolding inForce rulesOf
-      force-on t s-is c-is v-is a-is = rw (← k-is, none, ← f-is, ← s-is, t, ← c-is, v-is, a-is)
-
-      pub force-off : s ≡ false → s ≡ scalingOn f → c .0 ≡ capacityOf n → v ≡ reversedBy f → a ≡ classOn f
-          → Taken (record { steps = n .steps; capacity = c; scale = record { 0 = n .steps .0 }; span = record { 0 = c .0 }; reversed = v; active = a })
-          ≡ inForce n p
-      unfolding inForce rulesOf
-      force-off t s-is c-is v-is a-is = rw (← k-is, none, ← f-is, ← s-is, t, ← c-is, v-is, a-is)
-
-pub ruleset force = (force-refused, force-plate, force-steps, force-on, force-off)

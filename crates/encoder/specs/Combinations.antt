@@ -9,8 +9,8 @@ use lib.ListN.{replicate}
 use Rattle.encoder.specs.declared.nameplate.Nameplate.{Nameplate}
 use Rattle.encoder.specs.declared.parameters.Parameters.{Parameters}
 use Rattle.encoder.specs.declared.parameters.Parameters.the-variants.{Class2, Class4}
-use Rattle.encoder.specs.declared.«in_force».Effect.{Effect}
-use Rattle.encoder.specs.declared.«in_force».Effect.the-variants.{Taken}
+use Rattle.encoder.specs.declared.effect.Effect.{Effect}
+use Rattle.encoder.specs.declared.effect.Effect.the-variants.{Taken}
 
 -- R = 10, T = 3, so C = 30
 abbrev pub plate : Nameplate
@@ -30,7 +30,7 @@ pub record Combination : Type 0 where
   pub stated : Effect
 
 abbrev pub gives : Parameters → ℕ → ℕ → Bool → Bool → Combination
-gives p m l reversed active =
+gives p m l reversed enabled =
     record {
       sent = p;
       stated =
@@ -41,7 +41,7 @@ gives p m l reversed active =
             scale = record { 0 = m };
             span = record { 0 = l };
             reversed = reversed;
-            active = active;
+            enabled = enabled;
           }
           );
     }

@@ -5,19 +5,20 @@ use mathlib.Core.Bool.{cond}
 use Rattle.encoder.specs.declared.nameplate.Nameplate.{Nameplate}
 use Rattle.encoder.specs.declared.parameters.Parameters.{Parameters}
 use Rattle.encoder.specs.declared.parameters.Fields.{Fields}
-use Rattle.encoder.specs.declared.«in_force».InForce.{InForce}
-use Rattle.encoder.specs.declared.«in_force».Effect.{Effect}
-use Rattle.encoder.specs.declared.«in_force».Effect.the-variants.{Taken, Refused}
+use Rattle.encoder.specs.declared.effect.InForce.{InForce}
+use Rattle.encoder.specs.declared.effect.Effect.{Effect}
+use Rattle.encoder.specs.declared.effect.Effect.the-variants.{Taken, Refused}
 use Rattle.encoder.specs.Refusal.{answer}
 use Rattle.encoder.specs.Nameplate.{capacityOf}
-use Rattle.encoder.specs.Parameters.{fieldsOf, classOn, scalingOn, reversedBy, refusalOn}
+use Rattle.encoder.specs.Operating.{classOn, scalingOn, reversedBy}
+use Rattle.encoder.specs.Parameters.{fieldsOf, refusalOn}
 
 -- M and L: the fields as sent with scaling in force, otherwise R and C
 abbrev pub scaleOf : Nameplate → Fields → ℕ
-scaleOf n f = cond (scalingOn f) (f .units .0) (n .steps .0)
+scaleOf n f = cond (scalingOn (f .operating)) (f .units .0) (n .steps .0)
 
 abbrev pub spanOf : Nameplate → Fields → ℕ
-spanOf n f = cond (scalingOn f) (f .range .0) (capacityOf n)
+spanOf n f = cond (scalingOn (f .operating)) (f .range .0) (capacityOf n)
 
 -- all that is in force: R, C, M, L, the direction, and whether presets are made
 unfoldable pub rulesOf : Nameplate → Fields → InForce
@@ -27,8 +28,8 @@ rulesOf n f =
       capacity = record { 0 = capacityOf n };
       scale = record { 0 = scaleOf n f };
       span = record { 0 = spanOf n f };
-      reversed = reversedBy f;
-      active = classOn f;
+      reversed = reversedBy (f .four) (f .operating);
+      enabled = classOn (f .operating);
     }
 
 -- the answer: what is in force, or the number of the refusal

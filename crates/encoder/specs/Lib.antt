@@ -1,5 +1,6 @@
 pub mod Refusal
 pub mod Nameplate
+pub mod Operating
 pub mod Parameters
 pub mod InForce
 pub mod Combinations

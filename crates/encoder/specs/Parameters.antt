@@ -1,15 +1,15 @@
--- The parameters of both classes (document 01, "Class 2 telegram", "Class 4 block"; rows 3 to 6 of "When a call is turned away").
+-- The parameters of both classes (document 01, "Class 2 telegram", "Class 4 block"; rows 4 to 7 of "When a call is turned away").
 -- Assumes nothing.
-use Prim.Native.Nat.{ℕ, _*_, _/_, _^_}
+use Prim.Native.Nat.{ℕ, _*_}
 use mathlib.Core.Bool.{Bool, true, false, cond, not, _&&_, _||_}
 use lib.Dec.{eqb, ltb}
-use Rattle.integer.specs.Bits.{bit}
 use Rattle.encoder.specs.declared.nameplate.Nameplate.{Nameplate}
 use Rattle.encoder.specs.declared.parameters.Parameters.{Parameters}
 use Rattle.encoder.specs.declared.parameters.Parameters.the-variants.{Class2, Class4}
 use Rattle.encoder.specs.declared.parameters.Fields.{Fields}
 use Rattle.encoder.specs.Refusal.{reservedBit, revolutionUnits, totalRange, speedUnit, wrongPlate}
 use Rattle.encoder.specs.Nameplate.{plateFits}
+use Rattle.encoder.specs.Operating.{scalingOn, reservedWrong}
 
 -- the fields by which parameters are judged; class 2 has no speed unit and uses unit 0
 abbrev pub fieldsOf : Parameters → Fields
@@ -17,29 +17,13 @@ fieldsOf (Class2 operating units range) = record { four = false; operating = ope
 fieldsOf (Class4 operating units range life speed) =
     record { four = true; operating = operating; units = units; range = range; speed = speed }
 
--- bit 1: the class is on
-abbrev pub classOn : Fields → Bool
-classOn f = bit 1 (f .operating)
-
--- scaling is in force when the class bit and the scaling bit are both 1
-abbrev pub scalingOn : Fields → Bool
-scalingOn f = classOn f && bit 3 (f .operating)
-
--- bit 0, the code sequence, 1 = rises counter-clockwise: class 2 obeys it always, class 4 only with its class on
-abbrev pub reversedBy : Fields → Bool
-reversedBy f = bit 0 (f .operating) && (not (f .four) || classOn f)
-
--- 3: class 2 has bits 4 to 7 zero; class 4 has bit 5 at 1 and bits 6 and 7 zero
-abbrev pub reservedWrong : Fields → Bool
-reservedWrong f = cond (f .four) (not (eqb (f .operating / 2 ^ 5) 1)) (not (eqb (f .operating / 2 ^ 4) 0))
-
 -- 4: scaling in force, field 0 or above R
 abbrev pub unitsWrong : Nameplate → Fields → Bool
-unitsWrong n f = scalingOn f && (eqb (f .units .0) 0 || ltb (n .steps .0) (f .units .0))
+unitsWrong n f = scalingOn (f .operating) && (eqb (f .units .0) 0 || ltb (n .steps .0) (f .units .0))
 
 -- 5: scaling in force, field below M or above M × T
 abbrev pub rangeWrong : Nameplate → Fields → Bool
-rangeWrong n f = scalingOn f && (ltb (f .range .0) (f .units .0) || ltb (f .units .0 * n .turns .0) (f .range .0))
+rangeWrong n f = scalingOn (f .operating) && (ltb (f .range .0) (f .units .0) || ltb (f .units .0 * n .turns .0) (f .range .0))
 
 -- 6: above 3
 abbrev pub speedWrong : Fields → Bool
@@ -48,7 +32,7 @@ speedWrong f = ltb 3 (f .speed)
 -- the refusal of parameters on a nameplate within its limits, 0 where they are taken
 unfoldable pub fieldsRefusal : Nameplate → Fields → ℕ
 fieldsRefusal n f =
-    cond (reservedWrong f) reservedBit
+    cond (reservedWrong (f .four) (f .operating)) reservedBit
     (cond (unitsWrong n f) revolutionUnits
     (cond (rangeWrong n f) totalRange
     (cond (speedWrong f) speedUnit

@@ -1,10 +1,11 @@
 // The parameters of both classes, kept as sent, and what they are refused for (document 01, "Class 2 telegram" and "Class 4 block").
 ghost use mathlib.Core.Path.{_≡_};
-ghost use Rattle.encoder.specs.Parameters.{fieldsOf, reservedWrong, classOn, scalingOn, reversedBy, fieldsRefusal, refusalOn};
+ghost use Rattle.encoder.specs.Parameters.{fieldsOf, fieldsRefusal, refusalOn};
 use crate::nameplate::Nameplate;
+use crate::operating::reserved;
+use crate::operating::scaling;
 use crate::quantity::Units;
 use crate::refusal;
-use octets::bit;
 
 pub enum Parameters {
     // Octet 9, revolution units, total range.
@@ -43,6 +44,7 @@ impl Parameters {
         self.fields().refusal(plate)
     }
 
+    // The fields that the rules ask.
     pub(crate) fn fields(self) -> Fields
         ensures { λ r. ⌜ r ≡ fieldsOf self ⌝ }
     {
@@ -62,8 +64,8 @@ impl Parameters {
                 operating,
                 units,
                 range,
-                life: _,
                 speed,
+                ..
             } => Fields {
                 four: true,
                 operating,
@@ -76,47 +78,15 @@ impl Parameters {
 }
 
 impl Fields {
-    // The class is on.
-    pub(crate) fn class_on(self) -> bool
-        ensures { λ r. ⌜ r ≡ classOn self ⌝ }
-    {
-        bit(self.operating as u32, 1)
-    }
-
-    // Scaling is in force.
-    pub(crate) fn scaling(self) -> bool
-        ensures { λ r. ⌜ r ≡ scalingOn self ⌝ }
-    {
-        self.class_on() & bit(self.operating as u32, 3)
-    }
-
-    // Positions rise counter-clockwise.
-    pub(crate) fn reversed(self) -> bool
-        ensures { λ r. ⌜ r ≡ reversedBy self ⌝ }
-    {
-        bit(self.operating as u32, 0) & (!self.four | self.class_on())
-    }
-
-    // A bit with one allowed state has the other.
-    fn reserved(self) -> bool
-        ensures { λ r. ⌜ r ≡ reservedWrong self ⌝ }
-    {
-        if self.four {
-            self.operating >> 5 != 1
-        } else {
-            self.operating >> 4 != 0
-        }
-    }
-
     // The refusal on a nameplate within its limits.
     fn refusal(self, plate: Nameplate) -> u8
         ensures { λ r. ⌜ r ≡ fieldsRefusal plate self ⌝ }
     {
         let units = self.units.0;
         let range = self.range.0;
-        let scaling = self.scaling();
+        let scaling = scaling(self.operating);
         let most = units as u64 * plate.turns.0 as u64;
-        if self.reserved() {
+        if reserved(self.four, self.operating) {
             return refusal::RESERVED_BIT;
         }
         if scaling & ((units == 0) | (plate.steps.0 < units as u64)) {

@@ -1,4 +1,4 @@
-// The numbers of the refusals (document 01, "When a call is turned away"), named after the trade's words.
+// The numbers of the refusals, named after the trade's words (document 01, "When a call is turned away").
 
 // Telegram not 17 octets, block not 11.
 pub const LENGTH: u8 = 1;
@@ -21,5 +21,29 @@ pub const SPEED_UNIT: u8 = 6;
 // R or T outside its limits.
 pub const PLATE: u8 = 7;
 
-// A lent buffer not exactly of its length.
+// Step at or above R.
+pub const STEP: u8 = 8;
+
+// Turn at or above T, or raw number at or above C.
+pub const TURN: u8 = 9;
+
+// Difference exactly C / 2.
+pub const HALF_RANGE: u8 = 10;
+
+// Value not between -L and L, ends excluded.
+pub const PRESET: u8 = 11;
+
+// Preset called or held value set, class bit 0.
+pub const CLASS_OFF: u8 = 12;
+
+// A lent buffer or list not exactly of its length.
 pub const BUFFER: u8 = 13;
+
+// No time has passed.
+pub const ELAPSED: u8 = 14;
+
+// Line is no form, or too much input.
+pub const FORM: u8 = 15;
+
+// No started axis, or a record outside its limits.
+pub const NO_AXIS: u8 = 16;

@@ -1,8 +1,8 @@
--- What the loops over octets keep, and what a part of a telegram reads as.
+-- What the loops over octets keep, at first, one further and at the end, and what a bit is.
 -- Assumes nothing.
 use mathlib.Core.Path.{_≡_, refl}
 use mathlib.Core.Bool.{false}
-use mathlib.Core.List.{List, [], _∷_, _++_, append-assoc, append-nil}
+use mathlib.Core.List.{List, [], _++_, append-assoc, append-nil}
 use Prim.Native.Nat.{ℕ, zero, suc, _+_, _-_, _*_, _/_, _%_, _^_, _<_, _≤_}
 use native.Mathlib.Omega.{arith}
 use native.Mathlib.Nat as N
@@ -14,7 +14,7 @@ use lib.ListN.{length, getD, take, drop, set}
 use lib.Seq.{take-suc, take-all, drop-cons, drop-length, drop-set-lt, getD-set-same, lt-length-set}
 use Rattle.integer.specs.Octets.{bigEndian, octets}
 use Rattle.integer.specs.Bits.{bit}
-use Rattle.integer.proofs.Octets.{bigEndian-snoc, bigEndian-lt}
+use Rattle.integer.proofs.Octets.{bigEndian-snoc}
 
 -- the number of no octets, of one more, and of all
 pub number-none : 0 ≡ bigEndian [] % 2 ^ 32

@@ -3,7 +3,7 @@ ghost use mathlib.Core.Path.{_≡_};
 ghost use Prim.Native.Nat.{_%_, _^_};
 ghost use lib.ListN.{length};
 ghost use Rattle.integer.specs.Octets.{bigEndian, octets};
-ghost use Rattle.integer.specs.Bits as bits;
+ghost use Rattle.integer.specs.Bits.{bit};
 
 // The number that the octets stand for; of more than four, the last four.
 pub fn number(part: &[u8]) -> u32
@@ -18,7 +18,7 @@ pub fn number(part: &[u8]) -> u32
     n
 }
 
-// Fills the octets with a number; of fewer than four, with its last.
+// Fills the octets with a number, zeros in front; fewer than four take its last octets.
 pub fn put_number(part: &mut [u8], n: u32)
     ensures { λ _. ⌜ now (part .exit) ≡ octets (length (now (part .entry))) n ⌝ }
 {
@@ -33,7 +33,7 @@ pub fn put_number(part: &mut [u8], n: u32)
 
 // Bit n of a word is 1.
 pub fn bit(word: u32, n: u32) -> bool
-    ensures { λ r. ⌜ r ≡ bits.bit n word ⌝ }
+    ensures { λ r. ⌜ r ≡ bit n word ⌝ }
 {
     if 32 <= n {
         return false;

@@ -5,7 +5,7 @@ use mathlib.Core.List.{map}
 use Rattle.integer.specs.Octets.{bigEndian}
 use Rattle.encoder.specs.Parameters.{fieldsRefusal, refusalOn}
 use Rattle.encoder.specs.InForce.{rulesOf, inForce}
-use Rattle.telegram.specs.Read.{telegramRefusal, readTelegram}
+use Rattle.reader.specs.Read.{telegramRefusal, readTelegram}
 use Rattle.vectors.specs.Starred.{Starred, starred}
 
 pub starred-hold : map (λ (s : Starred). s .computed) starred ≡ map (λ (s : Starred). s .paper) starred

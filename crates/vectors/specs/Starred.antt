@@ -1,16 +1,15 @@
 -- The starred bench values (document 01, "Bench values"): beside each value of the paper what the definitions give, in one list.
 -- Assumes nothing.
-use Prim.Native.Nat.{ℕ}
 use mathlib.Core.List.{List, [], _∷_, _++_}
 use lib.ListN.{replicate}
 use lib.IntN.{ℤ, pos}
 use Rattle.encoder.specs.declared.nameplate.Nameplate.{Nameplate}
-use Rattle.encoder.specs.declared.«in_force».Effect.{Effect}
-use Rattle.encoder.specs.declared.«in_force».Effect.the-variants.{Taken as InForce, Refused as NotInForce}
+use Rattle.encoder.specs.declared.effect.Effect.{Effect}
+use Rattle.encoder.specs.declared.effect.Effect.the-variants.{Taken as InForce, Refused as NotInForce}
 use Rattle.encoder.specs.InForce.{inForce}
-use Rattle.telegram.specs.declared.read.Received.{Received}
-use Rattle.telegram.specs.declared.read.Received.the-variants.{Taken, Refused}
-use Rattle.telegram.specs.Read.{readTelegram}
+use Rattle.reader.specs.declared.Received.{Received}
+use Rattle.reader.specs.declared.Received.the-variants.{Taken, Refused}
+use Rattle.reader.specs.Read.{readTelegram}
 
 pub record Starred : Type 0 where
   pub computed : List ℤ

@@ -1,11 +1,11 @@
 // Answers in words: what is in force, the octets of a buffer, or the number of the refusal.
-use encoder::in_force::Effect;
-use encoder::in_force::InForce;
-use encoder::in_force::in_force;
+use encoder::effect::Effect;
+use encoder::effect::InForce;
+use encoder::effect::in_force;
 use encoder::nameplate::Nameplate;
 use libc::STDOUT_FILENO;
-use telegram::read::Received;
-use telegram::write::Written;
+use reader::Received;
+use writer::Written;
 
 // A reader's answer, with what the parameters put in force on the nameplate.
 pub(crate) fn received(plate: Nameplate, answer: Received) {
@@ -32,7 +32,7 @@ fn taken(rules: InForce) {
     } else {
         text(b" cw");
     }
-    if rules.active {
+    if rules.enabled {
         line(b" on");
     } else {
         line(b" off");

@@ -10,9 +10,9 @@ use encoder::parameters::Parameters;
 use encoder::quantity::Steps;
 use encoder::quantity::Turns;
 use encoder::quantity::Units;
-use telegram::read::read_block;
-use telegram::read::read_telegram;
-use telegram::write::write_parameters;
+use reader::read_block;
+use reader::read_telegram;
+use writer::write_parameters;
 
 // Writes the line, and below it the answer.
 pub(crate) fn run(line: &[u8]) {
@@ -20,30 +20,25 @@ pub(crate) fn run(line: &[u8]) {
     if line.len() < 8 {
         return;
     }
-    match line[0] {
-        b't' => telegram(line),
-        b'b' => block(line),
+    let word = line[0];
+    match word {
+        b't' | b'b' => read(word, line),
         b'w' => write(line),
         _ => {}
     }
 }
 
-// `telegram`: the octets of a class 2 telegram, to be read.
-fn telegram(line: &[u8]) {
+// `telegram` and `block`: the octets of a class 2 telegram or of a class 4 block, to be read.
+fn read(word: u8, line: &[u8]) {
     let head = nameplate(line);
     let plate = head.plate;
     let mut buffer = [0u8; 64];
     let n = octets(line, head.next, &mut buffer);
-    answer::received(plate, read_telegram(plate, &buffer[..n]));
-}
-
-// `block`: the octets of a class 4 block, to be read.
-fn block(line: &[u8]) {
-    let head = nameplate(line);
-    let plate = head.plate;
-    let mut buffer = [0u8; 64];
-    let n = octets(line, head.next, &mut buffer);
-    answer::received(plate, read_block(plate, &buffer[..n]));
+    if word == b't' {
+        answer::received(plate, read_telegram(plate, &buffer[..n]));
+    } else {
+        answer::received(plate, read_block(plate, &buffer[..n]));
+    }
 }
 
 // `write 2` and `write 4`: the length of a buffer that holds EEh, and the fields in the order of the telegram or the block, to be written.
@@ -64,6 +59,7 @@ fn fill(plate: Nameplate, parameters: Parameters, buffer: &mut [u8]) {
     answer::written(answer, buffer);
 }
 
+// The class is the digit of the word.
 fn parameters(line: &[u8], from: usize) -> Parameters {
     let operating = hexadecimal(line, from);
     let units = decimal(line, operating.next);
@@ -86,6 +82,7 @@ fn parameters(line: &[u8], from: usize) -> Parameters {
     }
 }
 
+// The nameplate of a line, and where the numbers behind it are looked for.
 struct Plated {
     plate: Nameplate,
     next: usize,

@@ -1,3 +1,5 @@
+-- A bit past the word is 0, and a mask of one bit is a remainder.
+-- Assumes nothing.
 use borrow.Author.Needs.{needs}
 use Rattle.octets.proofs.OctetLaws.{bit-past, low-bit}
 use Rattle.octets.proofs.bit.Statement.{statement}

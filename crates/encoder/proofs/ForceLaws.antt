@@ -1,0 +1,46 @@
+-- What is in force, at each way out, by the number k of the parameters' refusal: a law a way, its premises the tests and calls on that way.
+-- Assumes nothing.
+use mathlib.Core.Path.{_≡_, sym, _∙_}
+use mathlib.Core.Bool.{Bool, true, false}
+use Prim.Native.Nat.{ℕ}
+use native.Mathlib.Omega.{arith}
+use mir.Syntax.{w32}
+use mir.Val.{Fits}
+use Rattle.encoder.specs.declared.quantity.Steps.{Steps}
+use Rattle.encoder.specs.declared.nameplate.Nameplate.{Nameplate}
+use Rattle.encoder.specs.declared.parameters.Parameters.{Parameters}
+use Rattle.encoder.specs.declared.parameters.Fields.{Fields}
+use Rattle.encoder.specs.declared.effect.Effect.the-variants.{Taken, Refused}
+use Rattle.encoder.specs.Nameplate.{plateFits, capacityOf}
+use Rattle.encoder.specs.Operating.{classOn, scalingOn, reversedBy}
+use Rattle.encoder.specs.Parameters.{fieldsOf, refusalOn}
+use Rattle.encoder.specs.InForce.{rulesOf, inForce}
+use Rattle.encoder.proofs.RefusalLaws.{refused-is}
+use Rattle.encoder.proofs.PlateLaws.{plated}
+use Rattle.encoder.proofs.ParameterLaws.{taken-plate}
+
+module _ (n : Nameplate) (p : Parameters) (k : ℕ) where
+  pub force-refused : (k ≡ 0 → ⊥) → k ≡ refusalOn n p → Refused k ≡ inForce n p
+  unfolding inForce
+  force-refused ne k-is = rw (← k-is, refused-is Refused (Taken (rulesOf n (fieldsOf p))) k ne)
+
+  module _ (none : k ≡ 0) (k-is : k ≡ refusalOn n p) where
+    pub force-plate : plateFits n ≡ true
+    force-plate = taken-plate n p (sym k-is ∙ none)
+
+    pub force-steps : Fits w32 (n .steps .0)
+    force-steps = record { fits = omega (arith, plated n force-plate) }
+
+    module _ (f : Fields) (f-is : f ≡ fieldsOf p) (c : Steps) (s v a : Bool) where
+      pub force-on : s ≡ true → s ≡ scalingOn (f .operating) → c .0 ≡ capacityOf n → v ≡ reversedBy (f .four) (f .operating) → a ≡ classOn (f .operating)
+          → Taken (record { steps = n .steps; capacity = c; scale = f .units; span = f .range; reversed = v; enabled = a }) ≡ inForce n p
+      unfolding inForce rulesOf
+      force-on t s-is c-is v-is a-is = rw (← k-is, none, ← f-is, ← s-is, t, ← c-is, v-is, a-is)
+
+      pub force-off : s ≡ false → s ≡ scalingOn (f .operating) → c .0 ≡ capacityOf n → v ≡ reversedBy (f .four) (f .operating) → a ≡ classOn (f .operating)
+          → Taken (record { steps = n .steps; capacity = c; scale = record { 0 = n .steps .0 }; span = record { 0 = c .0 }; reversed = v; enabled = a })
+          ≡ inForce n p
+      unfolding inForce rulesOf
+      force-off t s-is c-is v-is a-is = rw (← k-is, none, ← f-is, ← s-is, t, ← c-is, v-is, a-is)
+
+pub ruleset force = (force-refused, force-plate, force-steps, force-on, force-off)

@@ -1,0 +1,18 @@
+-- By the laws of OperatingLaws, one for each way out.
+-- Assumes nothing.
+use borrow.Author.Needs.{needs}
+use Rattle.encoder.proofs.OperatingLaws.{operating}
+use Rattle.encoder.proofs.operating.reserved.Statement.{statement}
+use Rattle.encoder.proofs.operating.reserved.Tie as tie
+
+pub reserved-spec : {M : Type 1} → statement M
+reserved-spec =
+    tie.close
+    (tie.spec
+    (λ c κs. search needs)
+    (λ c κs. search needs)
+    (λ c κs. search needs)
+    (λ c κs. search needs)
+    (λ c κs. search needs)
+    (λ c. search (needs, operating))
+    (λ c. search (needs, operating)))

@@ -1,0 +1,38 @@
+// The octet of operating parameters: octet 9 of a class 2 telegram, octet 1 of a class 4 block.
+ghost use mathlib.Core.Path.{_≡_};
+ghost use Rattle.encoder.specs.Operating.{classOn, scalingOn, reversedBy, reservedWrong};
+use octets::bit;
+
+// The class is on.
+pub(crate) fn class_on(octet: u8) -> bool
+    ensures { λ r. ⌜ r ≡ classOn octet ⌝ }
+{
+    bit(octet as u32, 1)
+}
+
+// Scaling is in force.
+pub(crate) fn scaling(octet: u8) -> bool
+    ensures { λ r. ⌜ r ≡ scalingOn octet ⌝ }
+{
+    class_on(octet) & bit(octet as u32, 3)
+}
+
+// Positions rise counter-clockwise.
+pub(crate) fn reversed(four: bool, octet: u8) -> bool
+    ensures { λ r. ⌜ r ≡ reversedBy four octet ⌝ }
+{
+    bit(octet as u32, 0) & (!four | class_on(octet))
+}
+
+// A bit with one allowed state has the other.
+pub(crate) fn reserved(four: bool, octet: u8) -> bool
+    ensures { λ r. ⌜ r ≡ reservedWrong four octet ⌝ }
+{
+    let o = octet as u32;
+    let high = bit(o, 6) | bit(o, 7);
+    if four {
+        !bit(o, 5) | high
+    } else {
+        bit(o, 4) | bit(o, 5) | high
+    }
+}

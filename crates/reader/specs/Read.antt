@@ -1,0 +1,50 @@
+-- The readers of both classes (document 01, "Class 2 telegram", "Class 4 block"; rows 1, 2 and 7 of "When a call is turned away").
+-- Assumes nothing.
+use Prim.Native.Nat.{ℕ}
+use mathlib.Core.Bool.{cond, not}
+use mathlib.Core.List.{List}
+use lib.Dec.{eqb}
+use lib.ListN.{length}
+use Rattle.integer.specs.Octets.{octet, part, bigEndian}
+use Rattle.encoder.specs.declared.nameplate.Nameplate.{Nameplate}
+use Rattle.encoder.specs.declared.parameters.Parameters.{Parameters}
+use Rattle.encoder.specs.declared.parameters.Parameters.the-variants.{Class2, Class4}
+use Rattle.reader.specs.declared.Received.{Received}
+use Rattle.reader.specs.declared.Received.the-variants.{Taken, Refused}
+use Rattle.encoder.specs.Refusal.{wrongLength, otherIdent, wrongPlate, answer}
+use Rattle.encoder.specs.Nameplate.{plateFits}
+use Rattle.encoder.specs.Parameters.{parametersRefusal}
+
+-- the answer of a reader: the parameters, or the number of the refusal
+abbrev pub received : ℕ → Parameters → Received
+received n p = answer Refused (Taken p) n
+
+-- class 2, octets 9, 10 to 13 and 14 to 17
+abbrev pub telegramParameters : List ℕ → Parameters
+telegramParameters t = Class2 (octet 9 t) (record { 0 = bigEndian (part 10 13 t) }) (record { 0 = bigEndian (part 14 17 t) })
+
+-- the order of refusals: 7, 1, 2, 3, 4, 5
+unfoldable pub telegramRefusal : Nameplate → List ℕ → ℕ
+telegramRefusal n t =
+    cond (not (plateFits n)) wrongPlate
+    (cond (not (eqb (length t) 17)) wrongLength
+    (cond (not (eqb (bigEndian (part 5 6 t)) (n .ident))) otherIdent
+    (parametersRefusal n (telegramParameters t))))
+
+unfoldable pub readTelegram : Nameplate → List ℕ → Received
+readTelegram n t = received (telegramRefusal n t) (telegramParameters t)
+
+-- class 4, octets 1, 2 to 5, 6 to 9, 10 and 11
+abbrev pub blockParameters : List ℕ → Parameters
+blockParameters b =
+    Class4 (octet 1 b) (record { 0 = bigEndian (part 2 5 b) }) (record { 0 = bigEndian (part 6 9 b) }) (octet 10 b) (octet 11 b)
+
+-- the order of refusals: 7, 1, 3, 4, 5, 6
+unfoldable pub blockRefusal : Nameplate → List ℕ → ℕ
+blockRefusal n b =
+    cond (not (plateFits n)) wrongPlate
+    (cond (not (eqb (length b) 11)) wrongLength
+    (parametersRefusal n (blockParameters b)))
+
+unfoldable pub readBlock : Nameplate → List ℕ → Received
+readBlock n b = received (blockRefusal n b) (blockParameters b)

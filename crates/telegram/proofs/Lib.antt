@@ -1,3 +1,0 @@
-pub mod ReadLaws
-pub mod WriteLaws
-pub mod RoundTrip
