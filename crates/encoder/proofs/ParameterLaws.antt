@@ -1,11 +1,10 @@
 -- What each way out of the functions on parameters has shown: a law a way, its premises the tests and calls on that way.
 -- Assumes nothing.
 use mathlib.Core.Path.{_≡_, refl}
-use mathlib.Core.Bool.{Bool, true, false, cond, not, _&&_, _||_}
+use mathlib.Core.Bool.{Bool, true, false, cond, not, _&&_}
 use Prim.Native.Nat.{ℕ, _*_, _≤_, _<_}
 use native.Mathlib.Omega.{arith}
 use native.Mathlib.Nat as N
-use lib.Dec.{eqb, ltb}
 use borrow.Author.Tests.{lt-ltb, le-ltb}
 use mir.Syntax.{w64, w32}
 use mir.Val.{Fits}
@@ -16,7 +15,7 @@ use Rattle.encoder.specs.declared.parameters.Parameters.the-variants.{Cl
 use Rattle.encoder.specs.declared.parameters.Fields.{Fields}
 use Rattle.encoder.specs.Nameplate.{plateFits}
 use Rattle.encoder.specs.Operating.{scalingOn, reservedWrong}
-use Rattle.encoder.specs.Parameters.{fieldsOf, fieldsRefusal, parametersRefusal, refusalOn}
+use Rattle.encoder.specs.Parameters.{fieldsOf, unitsOutside, rangeOutside, fieldsRefusal, parametersRefusal, refusalOn}
 use Rattle.encoder.proofs.PlateLaws.{plate-failed, plate-passed}
 
 -- ---- the fields of either class
@@ -37,29 +36,22 @@ fits-product a b h k =
     let r : a * b ≤ 4294967295 * 4294967295 = N.mul-le-mul p q in
     record { fits = omega arith }
 
--- rows 4 and 5, as the code tests them
-abbrev unitsTest : Nameplate → Fields → Bool → Bool
-unitsTest n f s = s && (eqb (f .units .0) 0 || ltb (n .steps .0) (f .units .0))
-
-abbrev rangeTest : Nameplate → Fields → Bool → Bool
-rangeTest n f s = s && (ltb (f .range .0) (f .units .0) || ltb (f .units .0 * n .turns .0) (f .range .0))
-
 module _ (n : Nameplate) (f : Fields) (r s : Bool) where
   pub refused-3 : r ≡ true → r ≡ reservedWrong (f .four) (f .operating) → 3 ≡ fieldsRefusal n f
   unfolding fieldsRefusal
   refused-3 t e = rw (← e, t)
 
   module _ (r-no : r ≡ false) (r-is : r ≡ reservedWrong (f .four) (f .operating)) where
-    pub refused-4 : unitsTest n f s ≡ true → s ≡ scalingOn (f .operating) → 4 ≡ fieldsRefusal n f
+    pub refused-4 : (s && unitsOutside n f) ≡ true → s ≡ scalingOn (f .operating) → 4 ≡ fieldsRefusal n f
     unfolding fieldsRefusal
     refused-4 t s-is = rw (← r-is, r-no, ← s-is, t)
 
-    module _ (u-no : unitsTest n f s ≡ false) (s-is : s ≡ scalingOn (f .operating)) where
-      pub refused-5 : rangeTest n f s ≡ true → 5 ≡ fieldsRefusal n f
+    module _ (u-no : (s && unitsOutside n f) ≡ false) (s-is : s ≡ scalingOn (f .operating)) where
+      pub refused-5 : (s && rangeOutside n f) ≡ true → 5 ≡ fieldsRefusal n f
       unfolding fieldsRefusal
       refused-5 t = rw (← r-is, r-no, ← s-is, u-no, t)
 
-      module _ (l-no : rangeTest n f s ≡ false) where
+      module _ (l-no : (s && rangeOutside n f) ≡ false) where
         pub refused-6 : 3 < f .speed → 6 ≡ fieldsRefusal n f
         unfolding fieldsRefusal
         refused-6 t = rw (← r-is, r-no, ← s-is, u-no, l-no, lt-ltb _ _ t)

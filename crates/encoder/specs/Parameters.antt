@@ -18,12 +18,18 @@ fieldsOf (Class4 operating units range life speed) =
     record { four = true; operating = operating; units = units; range = range; speed = speed }
 
 -- 4: scaling in force, field 0 or above R
+abbrev pub unitsOutside : Nameplate → Fields → Bool
+unitsOutside n f = eqb (f .units .0) 0 || ltb (n .steps .0) (f .units .0)
+
 abbrev pub unitsWrong : Nameplate → Fields → Bool
-unitsWrong n f = scalingOn (f .operating) && (eqb (f .units .0) 0 || ltb (n .steps .0) (f .units .0))
+unitsWrong n f = scalingOn (f .operating) && unitsOutside n f
 
 -- 5: scaling in force, field below M or above M × T
+abbrev pub rangeOutside : Nameplate → Fields → Bool
+rangeOutside n f = ltb (f .range .0) (f .units .0) || ltb (f .units .0 * n .turns .0) (f .range .0)
+
 abbrev pub rangeWrong : Nameplate → Fields → Bool
-rangeWrong n f = scalingOn (f .operating) && (ltb (f .range .0) (f .units .0) || ltb (f .units .0 * n .turns .0) (f .range .0))
+rangeWrong n f = scalingOn (f .operating) && rangeOutside n f
 
 -- 6: above 3
 abbrev pub speedWrong : Fields → Bool

@@ -82,17 +82,17 @@ impl Fields {
     fn refusal(self, plate: Nameplate) -> u8
         ensures { λ r. ⌜ r ≡ fieldsRefusal plate self ⌝ }
     {
-        let units = self.units.0;
-        let range = self.range.0;
+        let units = self.units.0 as u64;
+        let range = self.range.0 as u64;
         let scaling = scaling(self.operating);
-        let most = units as u64 * plate.turns.0 as u64;
+        let most = units * plate.turns.0 as u64;
         if reserved(self.four, self.operating) {
             return refusal::RESERVED_BIT;
         }
-        if scaling & ((units == 0) | (plate.steps.0 < units as u64)) {
+        if scaling & ((units == 0) | (plate.steps.0 < units)) {
             return refusal::REVOLUTION_UNITS;
         }
-        if scaling & ((range < units) | (most < range as u64)) {
+        if scaling & ((range < units) | (most < range)) {
             return refusal::TOTAL_RANGE;
         }
         if 3 < self.speed {

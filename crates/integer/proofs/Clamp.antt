@@ -1,17 +1,18 @@
--- A clamped number lies between the limits, and a number that lies there is kept.
+-- A clamped number lies between the limits: by the two tests, whichever way they went.
 -- Assumes nothing.
 use mathlib.Core.Path.{_≡_, refl}
-use mathlib.Core.Bool.{Bool, true, false, cond}
+use mathlib.Core.Bool.{Bool, true, false}
 use lib.IntN.{ℤ}
 use lib.Signed.{_≤ℤ_, ltZ}
 use Rattle.integer.specs.Clamp.{clamp}
 use Rattle.integer.proofs.Signed.{signed}
 
-pub clamp-within : (low high z : ℤ) → low ≤ℤ high → (low ≤ℤ clamp low high z) × (clamp low high z ≤ℤ high)
+clamp-by : (low high z : ℤ) (b c : Bool) → low ≤ℤ high → ltZ z low ≡ b → ltZ high z ≡ c
+    → (low ≤ℤ clamp low high z) × (clamp low high z ≤ℤ high)
 unfolding clamp
-clamp-within low high z h = by (ltZ z low) (ltZ high z) refl refl
-  where
-    by : (b c : Bool) → ltZ z low ≡ b → ltZ high z ≡ c → (low ≤ℤ cond b low (cond c high z)) × (cond b low (cond c high z) ≤ℤ high)
-    by true c p q = (omega signed, h)
-    by false true p q = (h, omega signed)
-    by false false p q = (omega signed, omega signed)
+clamp-by low high z true c h p q = rw p (omega signed, omega signed)
+clamp-by low high z false true h p q = rw (p, q) (omega signed, omega signed)
+clamp-by low high z false false h p q = rw (p, q) (omega signed, omega signed)
+
+pub clamp-within : (low high z : ℤ) → low ≤ℤ high → (low ≤ℤ clamp low high z) × (clamp low high z ≤ℤ high)
+clamp-within low high z h = clamp-by low high z (ltZ z low) (ltZ high z) h refl refl

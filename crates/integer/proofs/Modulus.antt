@@ -1,14 +1,13 @@
--- The remainder rounded down: z and z modulo n differ by a multiple of n, and no other number below n does (`modulo-is`), from which
--- every other law follows by naming the multiples.
+-- The remainder rounded down: z and z modulo n differ by a multiple of n, and no other number below n does.
 -- Assumes nothing.
 use mathlib.Core.Path.{_≡_, sym, ap, _∙_}
 use Prim.Native.Nat.{ℕ, suc, _+_, _*_, _/_, _%_, _<_}
 use native.Mathlib.Omega.{arith}
 use native.Mathlib.Nat as N
-use lib.IntN.{ℤ, pos, negsuc, _+ℤ_, _*ℤ_}
+use lib.IntN.{ℤ, pos, negsuc}
 use lib.Arith.{digits-mod}
 use Rattle.integer.specs.Modulus.{_modulo_}
-use Rattle.integer.proofs.Signed.{above, below, add-is, mul-is}
+use Rattle.integer.proofs.Signed.{above, below}
 
 pub modulo-lt : (z : ℤ) {n : ℕ} → 0 < n → z modulo n < n
 unfolding _modulo_
@@ -28,37 +27,3 @@ modulo-is z {n} {r} p q h e =
     let l = modulo-lt z k in
     let f : (q + m .0) * n + r ≡ (m .1 + p) * n + z modulo n = omega (arith, m .2, N.add-mul q (m .0) n, N.add-mul (m .1) p n) in
     sym (digits-mod (m .1 + p) l) ∙ ap (λ (x : ℕ). x % n) (sym f) ∙ digits-mod (q + m .0) h
-
--- a multiple of n more or less changes nothing
-pub modulo-multiple : (z k : ℤ) {n : ℕ} → 0 < n → (z +ℤ k *ℤ pos n) modulo n ≡ z modulo n
-modulo-multiple z k {n} h =
-    let m = modulo-has z h in
-    modulo-is (z +ℤ k *ℤ pos n) (m .0 + below k) (m .1 + above k) (modulo-lt z h)
-    (omega (
-      arith,
-      m .2,
-      add-is z (k *ℤ pos n),
-      mul-is k (pos n),
-      N.mul-zero (above k),
-      N.mul-zero (below k),
-      N.add-mul (m .0) (below k) n,
-      N.add-mul (m .1) (above k) n,
-    ))
-
--- summands may be taken modulo n
-pub modulo-add : (x y : ℤ) {n : ℕ} → 0 < n → (x +ℤ y) modulo n ≡ (x modulo n + y modulo n) % n
-modulo-add x y {n} h =
-    let l = modulo-has x h in
-    let m = modulo-has y h in
-    let t = x modulo n + y modulo n in
-    modulo-is (x +ℤ y) (l .0 + m .0) (l .1 + m .1 + t / n) (N.mod-lt t h)
-    (omega (
-      arith,
-      l .2,
-      m .2,
-      add-is x y,
-      N.div-add-mod' t n,
-      N.add-mul (l .0) (m .0) n,
-      N.add-mul (l .1) (m .1) n,
-      N.add-mul (l .1 + m .1) (t / n) n,
-    ))

@@ -8,7 +8,7 @@ use native.Mathlib.Omega.{arith}
 use lib.ListN.{length, getD, take, drop}
 use borrow.Author.Tests.{eq-eqb, ne-eqb}
 use Rattle.integer.specs.Octets.{bigEndian}
-use Rattle.integer.proofs.Octets.{Octets, bigEndian-part}
+use Rattle.integer.proofs.Octets.{known, Octets, bigEndian-part}
 use Rattle.encoder.specs.declared.nameplate.Nameplate.{Nameplate}
 use Rattle.encoder.specs.declared.parameters.Parameters.{Parameters}
 use Rattle.encoder.specs.declared.parameters.Parameters.the-variants.{Class2, Class4}
@@ -16,7 +16,7 @@ use Rattle.encoder.specs.Nameplate.{plateFits}
 use Rattle.encoder.specs.Parameters.{parametersRefusal, refusalOn}
 use Rattle.reader.specs.declared.Received.{Received}
 use Rattle.reader.specs.declared.Received.the-variants.{Taken, Refused}
-use Rattle.reader.specs.Read.{received, telegramRefusal, readTelegram, blockRefusal, readBlock}
+use Rattle.reader.specs.Read.{received, identIn, telegramRefusal, readTelegram, blockRefusal, readBlock}
 use Rattle.encoder.proofs.RefusalLaws.{refused-is}
 use Rattle.encoder.proofs.PlateLaws.{plate-failed, plate-passed}
 use Rattle.encoder.proofs.ParameterLaws.{on-plate}
@@ -48,8 +48,11 @@ module _ (n : Nameplate) (t : List ℕ) where
   block-1 ne passed = rw (passed, ne-eqb _ _ ne)
 
   module _ (long : length t ≡ 17) (i : ℕ) (i-is : i ≡ bigEndian (take 2 (drop 4 t)) % 2 ^ 32) (os : Octets t) where
-    ident-is : bigEndian (take 2 (drop 4 t)) ≡ i
-    ident-is = sym (i-is ∙ bigEndian-part t 4 2 (omega arith) os)
+    -- by the seventeen octets, however the definition takes its two from them
+    ident-is : identIn t ≡ i
+    ident-is =
+        let e : bigEndian (take 2 (drop 4 t)) ≡ i = sym (i-is ∙ bigEndian-part t 4 2 (omega arith) os) in
+        rw (known 17 t long) (rw (known 17 t long) at e)
 
     pub telegram-2 : (i ≡ n .ident → ⊥) → plateFits n ≡ true → Refused 2 ≡ readTelegram n t
     unfolding readTelegram telegramRefusal

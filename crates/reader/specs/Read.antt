@@ -19,7 +19,11 @@ use Rattle.encoder.specs.Parameters.{parametersRefusal}
 abbrev pub received : ℕ → Parameters → Received
 received n p = answer Refused (Taken p) n
 
--- class 2, octets 9, 10 to 13 and 14 to 17
+-- class 2, octets 5 and 6
+abbrev pub identIn : List ℕ → ℕ
+identIn t = bigEndian (part 5 6 t)
+
+-- octets 9, 10 to 13 and 14 to 17
 abbrev pub telegramParameters : List ℕ → Parameters
 telegramParameters t = Class2 (octet 9 t) (record { 0 = bigEndian (part 10 13 t) }) (record { 0 = bigEndian (part 14 17 t) })
 
@@ -28,7 +32,7 @@ unfoldable pub telegramRefusal : Nameplate → List ℕ → ℕ
 telegramRefusal n t =
     cond (not (plateFits n)) wrongPlate
     (cond (not (eqb (length t) 17)) wrongLength
-    (cond (not (eqb (bigEndian (part 5 6 t)) (n .ident))) otherIdent
+    (cond (not (eqb (identIn t) (n .ident))) otherIdent
     (parametersRefusal n (telegramParameters t))))
 
 unfoldable pub readTelegram : Nameplate → List ℕ → Received

@@ -9,7 +9,7 @@ use native.Mathlib.Omega.{arith}
 use lib.Dec.{eqb}
 use lib.ListN.{length}
 use borrow.Author.Tests.{eq-eqb, eqb-true}
-use Rattle.integer.specs.Octets.{part, bigEndian, octets}
+use Rattle.integer.specs.Octets.{octets}
 use Rattle.integer.proofs.Octets.{known, bigEndian-octets}
 use Rattle.encoder.specs.declared.quantity.Units.{Units}
 use Rattle.encoder.specs.declared.nameplate.Nameplate.{Nameplate}
@@ -19,7 +19,7 @@ use Rattle.encoder.specs.Refusal.{answer}
 use Rattle.encoder.specs.Nameplate.{plateFits}
 use Rattle.encoder.specs.Parameters.{parametersRefusal}
 use Rattle.reader.specs.declared.Received.the-variants.{Taken}
-use Rattle.reader.specs.Read.{telegramParameters, telegramRefusal, readTelegram, blockParameters, blockRefusal, readBlock}
+use Rattle.reader.specs.Read.{identIn, telegramParameters, telegramRefusal, readTelegram, blockParameters, blockRefusal, readBlock}
 use Rattle.writer.specs.declared.Written.the-variants.{Done, Refused}
 use Rattle.writer.specs.Write.{lengthOf, telegramOf, blockOf, octetsOf, writeRefusal, written, writtenOctets}
 use Rattle.writer.specs.RoundTrip.{readAs, Held}
@@ -45,7 +45,7 @@ module _ (n : Nameplate) (p : Parameters) (b : List ℕ) (taken : written n p b 
 
 -- ---- what the readers take
 module _ (n : Nameplate) (p : Parameters) (t : List ℕ) (fits : plateFits n ≡ true) (none : parametersRefusal n p ≡ 0) where
-  telegram-taken : length t ≡ 17 → bigEndian (part 5 6 t) ≡ n .ident → telegramParameters t ≡ p → readTelegram n t ≡ Taken p
+  telegram-taken : length t ≡ 17 → identIn t ≡ n .ident → telegramParameters t ≡ p → readTelegram n t ≡ Taken p
   unfolding readTelegram telegramRefusal
   telegram-taken long ident is = rw (fits, eq-eqb _ _ long, eq-eqb _ _ ident, ap (parametersRefusal n) is ∙ none) (ap Taken is)
 
@@ -60,7 +60,7 @@ module _ (t : List ℕ) (ident o : ℕ) (u r : Units) (hu : u .0 < 2 ^ 32) (hr :
     unfolding telegramOf octets
     telegram-long = rw (known 17 t h)
 
-    telegram-ident : ident < 2 ^ 16 → bigEndian (part 5 6 (telegramOf ident o u r t)) ≡ ident
+    telegram-ident : ident < 2 ^ 16 → identIn (telegramOf ident o u r t) ≡ ident
     unfolding telegramOf octets
     telegram-ident hi = rw (known 17 t h) (bigEndian-octets 2 ident hi)
 

@@ -9,15 +9,14 @@ pub refusal-spec : {M : Type 1} → statement M
 refusal-spec =
     tie.close
     (tie.spec
+    (λ c. search needs)
+    (λ c. search needs)
     (λ c κs. search needs)
     (λ c. search needs)
-    (λ c. search needs)
     (λ c. search (needs, refusals))
     (λ c κs. search needs)
     (λ c. search (needs, refusals))
-    (λ c. search needs)
     (λ c. search (needs, refusals))
-    (λ c. search needs)
     (λ c. search (needs, refusals))
     (λ c. search (needs, refusals))
     (λ c. search (needs, refusals)))
