@@ -1,8 +1,8 @@
 -- What is in force, at each way out, by the number k of the parameters' refusal: a law a way, its premises the tests and calls on that way.
 -- Assumes nothing.
-use mathlib.Core.Path.{_≡_, sym, _∙_}
+use mathlib.Core.Path.{_≡_, refl, sym, _∙_}
 use mathlib.Core.Bool.{Bool, true, false}
-use Prim.Native.Nat.{ℕ}
+use Prim.Native.Nat.{ℕ, zero, suc}
 use native.Mathlib.Omega.{arith}
 use mir.Syntax.{w32}
 use mir.Val.{Fits}
@@ -10,7 +10,10 @@ use Rattle.encoder.specs.declared.quantity.Steps.{Steps}
 use Rattle.encoder.specs.declared.nameplate.Nameplate.{Nameplate}
 use Rattle.encoder.specs.declared.parameters.Parameters.{Parameters}
 use Rattle.encoder.specs.declared.parameters.Fields.{Fields}
+use Rattle.encoder.specs.declared.effect.InForce.{InForce}
+use Rattle.encoder.specs.declared.effect.Effect.{Effect}
 use Rattle.encoder.specs.declared.effect.Effect.the-variants.{Taken, Refused}
+use Rattle.encoder.specs.Refusal.{answer}
 use Rattle.encoder.specs.Nameplate.{plateFits, capacityOf}
 use Rattle.encoder.specs.Operating.{classOn, scalingOn, reversedBy}
 use Rattle.encoder.specs.Parameters.{fieldsOf, refusalOn}
@@ -33,14 +36,32 @@ module _ (n : Nameplate) (p : Parameters) (k : ℕ) where
 
     module _ (f : Fields) (f-is : f ≡ fieldsOf p) (c : Steps) (s v a : Bool) where
       pub force-on : s ≡ true → s ≡ scalingOn (f .operating) → c .0 ≡ capacityOf n → v ≡ reversedBy (f .four) (f .operating) → a ≡ classOn (f .operating)
-          → Taken (record { steps = n .steps; capacity = c; scale = f .units; span = f .range; reversed = v; enabled = a }) ≡ inForce n p
+          → Taken (record { steps = n .steps; capacity = c; scale = f .units; span = f .range; reversed = v; enabled = a; speed = f .speed }) ≡ inForce n p
       unfolding inForce rulesOf
       force-on t s-is c-is v-is a-is = rw (← k-is, none, ← f-is, ← s-is, t, ← c-is, v-is, a-is)
 
       pub force-off : s ≡ false → s ≡ scalingOn (f .operating) → c .0 ≡ capacityOf n → v ≡ reversedBy (f .four) (f .operating) → a ≡ classOn (f .operating)
-          → Taken (record { steps = n .steps; capacity = c; scale = record { 0 = n .steps .0 }; span = record { 0 = c .0 }; reversed = v; enabled = a })
+          → Taken (record { steps = n .steps; capacity = c; scale = record { 0 = n .steps .0 }; span = record { 0 = c .0 }; reversed = v; enabled = a; speed = f .speed })
           ≡ inForce n p
       unfolding inForce rulesOf
       force-off t s-is c-is v-is a-is = rw (← k-is, none, ← f-is, ← s-is, t, ← c-is, v-is, a-is)
+
+-- ---- the answer taken apart
+taken-by : (k : ℕ) (g f : InForce) → answer Refused (Taken g) k ≡ Taken f → (k ≡ 0) × (f ≡ g)
+taken-by zero g f e = (refl, cc)
+taken-by (suc k) g f e = let z : _≡_ {A = ℕ} 0 1 = cc in absurd (omega arith)
+
+refused-by : (k n : ℕ) (g : InForce) → answer Refused (Taken g) k ≡ Refused n → (k ≡ n) × (n ≡ 0 → ⊥)
+refused-by zero n g e = let z : _≡_ {A = ℕ} 0 1 = cc in absurd (omega arith)
+refused-by (suc k) n g e = let z : suc k ≡ n = cc in (z, λ h. omega arith)
+
+module _ (n : Nameplate) (p : Parameters) (e : Effect) where
+  pub in-force-taken : (f : InForce) → e ≡ Taken f → e ≡ inForce n p → (refusalOn n p ≡ 0) × (f ≡ rulesOf n (fieldsOf p))
+  unfolding inForce
+  in-force-taken f t e-is = taken-by (refusalOn n p) (rulesOf n (fieldsOf p)) f (sym e-is ∙ t)
+
+  pub in-force-refused : (k : ℕ) → e ≡ Refused k → e ≡ inForce n p → (refusalOn n p ≡ k) × (k ≡ 0 → ⊥)
+  unfolding inForce
+  in-force-refused k t e-is = refused-by (refusalOn n p) k (rulesOf n (fieldsOf p)) (sym e-is ∙ t)
 
 pub ruleset force = (force-refused, force-plate, force-steps, force-on, force-off)

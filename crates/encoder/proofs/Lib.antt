@@ -3,4 +3,5 @@ pub mod PlateLaws
 pub mod OperatingLaws
 pub mod ParameterLaws
 pub mod ForceLaws
+pub mod SoundLaws
 pub mod Combinations

@@ -26,7 +26,7 @@ pub record Plated (n : Nameplate) : Type 0 where
   pub turns-least : 1 ≤ n .turns .0
   pub turns-most : n .turns .0 ≤ 32768
 
-and-split : (a b : Bool) → (a && b) ≡ true → (a ≡ true) × (b ≡ true)
+pub and-split : (a b : Bool) → (a && b) ≡ true → (a ≡ true) × (b ≡ true)
 and-split true b e = (refl, e)
 and-split false b e = absurd (false≢true e)
 
@@ -43,7 +43,7 @@ plated n e =
     }
 
 module _ (n : Nameplate) (fits : plateFits n ≡ true) where
-  capacity-most : capacityOf n ≤ 2 ^ 31
+  pub capacity-most : capacityOf n ≤ 2 ^ 31
   capacity-most = let p = plated n fits in N.mul-le-mul (p .steps-most) (p .turns-most)
 
   pub capacity-fits : Fits w64 (n .steps .0 * n .turns .0)

@@ -42,6 +42,7 @@ gives p m l reversed enabled =
             span = record { 0 = l };
             reversed = reversed;
             enabled = enabled;
+            speed = 0;
           }
           );
     }

@@ -1,7 +1,8 @@
 -- What plate and parameters put in force (document 01, end of "Class 4 block").
 -- Assumes nothing.
-use Prim.Native.Nat.{ℕ}
-use mathlib.Core.Bool.{cond}
+use Prim.Native.Nat.{ℕ, _^_, _≤_}
+use mathlib.Core.Bool.{Bool, cond, _&&_}
+use lib.Dec.{leb}
 use Rattle.encoder.specs.declared.nameplate.Nameplate.{Nameplate}
 use Rattle.encoder.specs.declared.parameters.Parameters.{Parameters}
 use Rattle.encoder.specs.declared.parameters.Fields.{Fields}
@@ -20,7 +21,7 @@ scaleOf n f = cond (scalingOn (f .operating)) (f .units .0) (n .steps .0)
 abbrev pub spanOf : Nameplate → Fields → ℕ
 spanOf n f = cond (scalingOn (f .operating)) (f .range .0) (capacityOf n)
 
--- all that is in force: R, C, M, L, the direction, and whether presets are made
+-- all that is in force: R, C, M, L, the direction, whether presets are made, and the unit of velocities
 unfoldable pub rulesOf : Nameplate → Fields → InForce
 rulesOf n f =
     record {
@@ -30,8 +31,32 @@ rulesOf n f =
       span = record { 0 = spanOf n f };
       reversed = reversedBy (f .four) (f .operating);
       enabled = classOn (f .operating);
+      speed = f .speed;
     }
 
 -- the answer: what is in force, or the number of the refusal
 unfoldable pub inForce : Nameplate → Parameters → Effect
 inForce n p = answer Refused (Taken (rulesOf n (fieldsOf p))) (refusalOn n p)
+
+-- the limits of what can be in force, by those of a nameplate and the parameters taken on it
+unfoldable pub rulesFit : InForce → Bool
+rulesFit f =
+    leb 1 (f .steps .0)
+    && leb (f .steps .0) 65536
+    && leb 1 (f .capacity .0)
+    && leb (f .capacity .0) (2 ^ 31)
+    && leb 1 (f .scale .0)
+    && leb (f .scale .0) 65536
+    && leb 1 (f .span .0)
+    && leb (f .span .0) (2 ^ 31)
+
+-- the same, as facts
+pub record Sound (f : InForce) : Type 0 where
+  pub steps-least : 1 ≤ f .steps .0
+  pub steps-most : f .steps .0 ≤ 65536
+  pub capacity-least : 1 ≤ f .capacity .0
+  pub capacity-most : f .capacity .0 ≤ 2 ^ 31
+  pub scale-least : 1 ≤ f .scale .0
+  pub scale-most : f .scale .0 ≤ 65536
+  pub span-least : 1 ≤ f .span .0
+  pub span-most : f .span .0 ≤ 2 ^ 31

@@ -1,6 +1,7 @@
 -- The numbers of the refusals, named after the trade's words (document 01, "When a call is turned away"), and what an answer is by them.
 -- Assumes nothing.
 use Prim.Native.Nat.{ℕ, zero, suc}
+use mathlib.Core.Bool.{Bool, true, false}
 
 -- length: telegram not 17 octets, block not 11
 abbrev pub wrongLength : ℕ
@@ -30,9 +31,48 @@ speedUnit = 6
 abbrev pub wrongPlate : ℕ
 wrongPlate = 7
 
+-- step: s ≥ R
+abbrev pub wrongStep : ℕ
+wrongStep = 8
+
+-- turn: t ≥ T, or raw number ≥ C
+abbrev pub wrongTurn : ℕ
+wrongTurn = 9
+
+-- half range: difference exactly C/2
+abbrev pub halfRange : ℕ
+halfRange = 10
+
+-- preset: v not between −L and L, ends excluded
+abbrev pub wrongPreset : ℕ
+wrongPreset = 11
+
+-- class off: preset called or held value set, class bit 0
+abbrev pub classOff : ℕ
+classOff = 12
+
 -- buffer: a lent buffer or list not exactly of its length
 abbrev pub wrongBuffer : ℕ
 wrongBuffer = 13
+
+-- elapsed: e is 0
+abbrev pub nothingElapsed : ℕ
+nothingElapsed = 14
+
+-- no axis: no started axis, or a record outside its limits
+abbrev pub noAxis : ℕ
+noAxis = 16
+
+-- the refusal n where a test holds, and else none
+abbrev pub when : Bool → ℕ → ℕ
+when true n = n
+when false n = 0
+
+-- the first refusal of two, in their order: 0 is none
+infixr 40 _before_
+abbrev pub _before_ : ℕ → ℕ → ℕ
+zero before m = m
+suc n before m = suc n
 
 -- an answer by the number of its refusal: what is taken at 0, and otherwise the number alone
 abbrev pub answer : {A : Type 0} → (ℕ → A) → A → ℕ → A

@@ -22,6 +22,8 @@ pub struct InForce {
     pub reversed: bool,
     // the class is on: presets are made
     pub enabled: bool,
+    // the unit of velocities, 0 to 3
+    pub speed: u8,
 }
 
 pub enum Effect {
@@ -41,6 +43,7 @@ pub fn in_force(plate: Nameplate, parameters: Parameters) -> Effect
     let capacity = plate.capacity();
     let reversed = reversed(f.four, f.operating);
     let enabled = class_on(f.operating);
+    let speed = f.speed;
     if scaling(f.operating) {
         let scale = f.units;
         let span = f.range;
@@ -51,6 +54,7 @@ pub fn in_force(plate: Nameplate, parameters: Parameters) -> Effect
             span,
             reversed,
             enabled,
+            speed,
         });
     }
     Effect::Taken(InForce {
@@ -60,5 +64,6 @@ pub fn in_force(plate: Nameplate, parameters: Parameters) -> Effect
         span: Units(capacity.0 as u32),
         reversed,
         enabled,
+        speed,
     })
 }

@@ -1,4 +1,5 @@
 pub mod Signed
+pub mod Size
 pub mod Modulus
 pub mod Clamp
 pub mod Octets

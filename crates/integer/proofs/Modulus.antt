@@ -27,3 +27,9 @@ modulo-is z {n} {r} p q h e =
     let l = modulo-lt z k in
     let f : (q + m .0) * n + r ≡ (m .1 + p) * n + z modulo n = omega (arith, m .2, N.add-mul q (m .0) n, N.add-mul (m .1) p n) in
     sym (digits-mod (m .1 + p) l) ∙ ap (λ (x : ℕ). x % n) (sym f) ∙ digits-mod (q + m .0) h
+
+-- numbers that differ by a multiple of n are the same modulo n
+pub modulo-alike : (x y : ℤ) {n : ℕ} (p q : ℕ) → 0 < n → (above x + below y) + p * n ≡ (above y + below x) + q * n → x modulo n ≡ y modulo n
+modulo-alike x y {n} p q h e =
+    let m = modulo-has y h in
+    modulo-is x (p + m .0) (q + m .1) (modulo-lt y h) (omega (arith, m .2, N.add-mul p (m .0) n, N.add-mul q (m .1) n))

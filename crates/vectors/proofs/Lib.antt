@@ -1,2 +1,1 @@
 pub mod ParseLaws
-pub mod Starred

@@ -1,10 +1,15 @@
 // Answers in words: what is in force, the octets of a buffer, or the number of the refusal.
+use axis::Axis;
+use axis::Next;
+use axis::Reported;
 use encoder::effect::Effect;
 use encoder::effect::InForce;
 use encoder::effect::in_force;
 use encoder::nameplate::Nameplate;
 use libc::STDOUT_FILENO;
 use reader::Received;
+use ring::magnitude;
+use velocity::Speed;
 use writer::Written;
 
 // A reader's answer, with what the parameters put in force on the nameplate.
@@ -48,6 +53,76 @@ pub(crate) fn written(answer: Written, buffer: &[u8]) {
     text(b" ");
     octets(buffer);
     line(b"");
+}
+
+// The axis that a call leaves: positions, offset, presets; or the number of the refusal.
+pub(crate) fn next(answer: Next) {
+    if answer.refusal != 0 {
+        refused(answer.refusal);
+        return;
+    }
+    let axis = answer.axis;
+    match axis.position() {
+        Reported::At {
+            position,
+            unshifted,
+        } => {
+            text(b"  at ");
+            decimal(position.0 as u64);
+            text(b" unshifted ");
+            decimal(unshifted.0 as u64);
+            settings(axis);
+        }
+        Reported::Refused(n) => refused(n),
+    }
+}
+
+fn settings(axis: Axis) {
+    text(b" offset ");
+    signed(axis.offset);
+    text(b" preset ");
+    signed(axis.preset);
+    text(b" stored ");
+    signed(axis.stored);
+    line(b"");
+}
+
+pub(crate) fn speed(answer: Speed) {
+    match answer {
+        Speed::At(v) => {
+            text(b"  velocity ");
+            signed(widened(v));
+            line(b"");
+        }
+        Speed::Refused(n) => refused(n),
+    }
+}
+
+// The list that a batch leaves.
+pub(crate) fn positions(list: &[u32]) {
+    text(b"  list");
+    let mut i = 0;
+    while i < list.len() {
+        text(b" ");
+        decimal(wide(list[i]));
+        i += 1;
+    }
+    line(b"");
+}
+
+fn widened(v: i32) -> i64 {
+    v as i64
+}
+
+fn wide(n: u32) -> u64 {
+    n as u64
+}
+
+fn signed(z: i64) {
+    if z < 0 {
+        text(b"-");
+    }
+    decimal(magnitude(z));
 }
 
 fn octets(buffer: &[u8]) {

@@ -7,17 +7,49 @@ pub struct Parsed {
     pub next: usize,
 }
 
+pub struct ParsedLong {
+    pub value: u64,
+    pub next: usize,
+}
+
+pub struct ParsedSigned {
+    pub value: i64,
+    pub next: usize,
+}
+
 // The decimal number behind what stands from an index on.
 pub(crate) fn decimal(line: &[u8], from: usize) -> Parsed {
+    truncated(number(line, past_blanks(line, from), 10))
+}
+
+// The same, of up to 56 bits.
+pub(crate) fn long(line: &[u8], from: usize) -> ParsedLong {
     number(line, past_blanks(line, from), 10)
+}
+
+// The same, with or without a minus.
+pub(crate) fn signed(line: &[u8], from: usize) -> ParsedSigned {
+    let at = past_blanks(line, from);
+    if at < line.len() && line[at] == b'-' {
+        let below = truncated(number(line, at + 1, 10));
+        return ParsedSigned {
+            value: 0 - below.value as i64,
+            next: below.next,
+        };
+    }
+    let above = truncated(number(line, at, 10));
+    ParsedSigned {
+        value: above.value as i64,
+        next: above.next,
+    }
 }
 
 // The hexadecimal number behind what stands from an index on.
 pub(crate) fn hexadecimal(line: &[u8], from: usize) -> Parsed {
-    number(line, past_blanks(line, from), 16)
+    truncated(number(line, past_blanks(line, from), 16))
 }
 
-fn number(line: &[u8], from: usize, base: u64) -> Parsed
+fn number(line: &[u8], from: usize, base: u64) -> ParsedLong
     requires { ⌜ base ≤ 16 ⌝ }
 {
     let mut value: u64 = 0;
@@ -25,19 +57,19 @@ fn number(line: &[u8], from: usize, base: u64) -> Parsed
     while at < line.len() {
         let d = digit(line[at]);
         if base <= d {
-            return truncated(value, at);
+            return ParsedLong { value, next: at };
         }
         value = value % 0x100_0000_0000_0000 * base + d;
         at += 1;
     }
-    truncated(value, at)
+    ParsedLong { value, next: at }
 }
 
-// The last 32 bits of a number, which is all that a vector asks.
-fn truncated(value: u64, next: usize) -> Parsed {
+// The last 32 bits of a number.
+fn truncated(long: ParsedLong) -> Parsed {
     Parsed {
-        value: (value % 0x1_0000_0000) as u32,
-        next,
+        value: (long.value % 0x1_0000_0000) as u32,
+        next: long.next,
     }
 }
 

@@ -2,9 +2,11 @@
 // Octets and the ident number are hexadecimal, other numbers decimal.
 ghost use Rattle.io.specs.Counts.{Counts};
 use crate::answer;
+use crate::call;
 use crate::parse::decimal;
 use crate::parse::hexadecimal;
 use crate::parse::past_blanks;
+use axis::Axis;
 use encoder::nameplate::Nameplate;
 use encoder::parameters::Parameters;
 use encoder::quantity::Steps;
@@ -14,11 +16,11 @@ use reader::read_block;
 use reader::read_telegram;
 use writer::write_parameters;
 
-// Writes the line, and below it the answer.
-pub(crate) fn run(line: &[u8]) {
+// Writes the line, and below it the answer. Yields the axis that it leaves.
+pub(crate) fn run(axis: Axis, line: &[u8]) -> Axis {
     answer::line(line);
     if line.len() < 8 {
-        return;
+        return axis;
     }
     let word = line[0];
     match word {
@@ -26,6 +28,7 @@ pub(crate) fn run(line: &[u8]) {
         b'w' => write(line),
         _ => {}
     }
+    call::run(axis, word, line)
 }
 
 // `telegram` and `block`: the octets of a class 2 telegram or of a class 4 block, to be read.
@@ -59,8 +62,8 @@ fn fill(plate: Nameplate, parameters: Parameters, buffer: &mut [u8]) {
     answer::written(answer, buffer);
 }
 
-// The class is the digit of the word.
-fn parameters(line: &[u8], from: usize) -> Parameters {
+// The class is the digit at column 6, of `write 2` and `axis  2`.
+pub(crate) fn parameters(line: &[u8], from: usize) -> Parameters {
     let operating = hexadecimal(line, from);
     let units = decimal(line, operating.next);
     let range = decimal(line, units.next);
@@ -83,12 +86,12 @@ fn parameters(line: &[u8], from: usize) -> Parameters {
 }
 
 // The nameplate of a line, and where the numbers behind it are looked for.
-struct Plated {
-    plate: Nameplate,
-    next: usize,
+pub struct Plated {
+    pub plate: Nameplate,
+    pub next: usize,
 }
 
-fn nameplate(line: &[u8]) -> Plated {
+pub(crate) fn nameplate(line: &[u8]) -> Plated {
     let steps = decimal(line, 8);
     let turns = decimal(line, steps.next);
     let ident = hexadecimal(line, turns.next);

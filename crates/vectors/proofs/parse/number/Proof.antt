@@ -1,7 +1,7 @@
 -- Each turn goes one further, and a digit behind 56 bits fits.
 -- Assumes nothing.
-use Prim.Native.Nat.{_-_}
 use borrow.Author.Needs.{needs}
+use Prim.Native.Nat.{_-_}
 use lib.ListN.{length}
 use Rattle.vectors.proofs.ParseLaws.{shifted-fits, digit-fits}
 use Rattle.vectors.proofs.parse.number.Statement.{statement}
@@ -22,12 +22,10 @@ number-spec =
     (λ c. search needs)
     (λ c. search needs)
     (λ c κs. search needs)
-    (λ c κs. search needs)
     (λ c. search needs)
     (λ c. search (needs, shifted-fits))
     (λ c. search (needs, digit-fits))
     (λ c. search needs)
     (λ c. search needs)
     (λ c. search needs)
-    (λ c κs. search needs)
     (λ c. search needs))

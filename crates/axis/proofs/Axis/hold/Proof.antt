@@ -1,0 +1,16 @@
+-- By the laws of PresetLaws, one for each way out.
+-- Assumes nothing.
+use borrow.Author.Needs.{needs}
+use Rattle.axis.proofs.PresetLaws.{presets}
+use Rattle.axis.proofs.Axis.hold.Statement.{statement}
+use Rattle.axis.proofs.Axis.hold.Tie as tie
+
+pub hold-spec : {M : Type 1} → statement M
+hold-spec =
+    tie.close
+    (tie.spec
+    (λ c κs. search needs)
+    (λ c κs. search needs)
+    (λ c. search (needs, presets))
+    (λ c κs. search needs)
+    (λ c. search (needs, presets)))

@@ -1,0 +1,18 @@
+-- By the laws of ReadingLaws, one for each way out.
+-- Assumes nothing.
+use borrow.Author.Needs.{needs}
+use Rattle.axis.proofs.ReadingLaws.{readings}
+use Rattle.axis.proofs.Axis.read_raw.Statement.{statement}
+use Rattle.axis.proofs.Axis.read_raw.Tie as tie
+
+pub read-raw-spec : {M : Type 1} → statement M
+read-raw-spec =
+    tie.close
+    (tie.spec
+    (λ c κs. search needs)
+    (λ c. search needs)
+    (λ c κs. search (needs, readings))
+    (λ c. search needs)
+    (λ c κs. search needs)
+    (λ c. search needs)
+    (λ c. search (needs, readings)))

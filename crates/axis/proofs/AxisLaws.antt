@@ -1,0 +1,117 @@
+-- The limits of a record as a test and as facts, each way out of the test, and the answer taken apart.
+-- Assumes nothing.
+use mathlib.Core.Path.{_≡_, refl, sym, _∙_}
+use mathlib.Core.Bool.{Bool, true, false, not, _&&_}
+use Prim.Native.Nat.{ℕ, _<_}
+use native.Mathlib.Omega.{arith}
+use lib.IntN.{natAbs}
+use borrow.Author.Tests.{lt-ltb, ltb-true, eq-eqb, ne-eqb, eqb-true}
+use mir.Syntax.{w64}
+use mir.Val.{SFits, toZ, ofZ}
+use Rattle.integer.proofs.Size.{reads, fits-abs}
+use Rattle.ring.specs.Ring.{inRange}
+use Rattle.encoder.specs.declared.effect.InForce.{InForce}
+use Rattle.encoder.specs.declared.effect.Effect.{Effect}
+use Rattle.encoder.specs.declared.effect.Effect.the-variants.{Taken, Refused}
+use Rattle.encoder.specs.Refusal.{when, answer}
+use Rattle.encoder.specs.Parameters.{refusalOn}
+use Rattle.encoder.specs.InForce.{inForce}
+use Rattle.encoder.proofs.PlateLaws.{and-split}
+use Rattle.encoder.proofs.ForceLaws.{in-force-taken, in-force-refused}
+use Rattle.travel.specs.Travel.{inside, Inside}
+use Rattle.travel.proofs.TravelLaws.{inside-true, inside-is}
+use Rattle.axis.specs.declared.Axis.{Axis}
+use Rattle.axis.specs.Axis.{rulesOn, keeps, acceptable, axisRefusal, inForceOn, Ready}
+
+-- ---- the test
+pub keeps-is : (a : Axis) (f : InForce) (r o p q : Bool) → r ≡ inside f (a .travel)
+    → o ≡ inRange (toZ w64 (ofZ w64 (a .offset))) (f .span .0) → SFits w64 (a .offset)
+    → p ≡ inRange (toZ w64 (ofZ w64 (a .preset))) (f .span .0) → SFits w64 (a .preset)
+    → q ≡ inRange (toZ w64 (ofZ w64 (a .stored))) (f .span .0) → SFits w64 (a .stored)
+    → (r && o && p && q) ≡ keeps f a
+keeps-is a f r o p q re oe of pe pf qe qf = rw (re, oe, pe, qe, reads of, reads pf, reads qf)
+
+module _ (a : Axis) (e : Effect) where
+  pub rules-taken : (f : InForce) (b : Bool) → b ≡ true → b ≡ keeps f a → e ≡ Taken f → e ≡ inForce (a .nameplate) (a .parameters) → Taken f ≡ inForceOn a
+  unfolding inForceOn axisRefusal acceptable rulesOn
+  rules-taken f b t b-is h e-is =
+      let i = in-force-taken _ _ e f h e-is in
+      rw (eq-eqb _ _ (i .0), ← i .1, ← b-is, t)
+
+  pub rules-out : (f : InForce) (b : Bool) → b ≡ false → b ≡ keeps f a → e ≡ Taken f → e ≡ inForce (a .nameplate) (a .parameters) → Refused 16 ≡ inForceOn a
+  unfolding inForceOn axisRefusal acceptable rulesOn
+  rules-out f b t b-is h e-is =
+      let i = in-force-taken _ _ e f h e-is in
+      rw (eq-eqb _ _ (i .0), ← i .1, ← b-is, t)
+
+  pub rules-not : (n : ℕ) → e ≡ Refused n → e ≡ inForce (a .nameplate) (a .parameters) → Refused 16 ≡ inForceOn a
+  unfolding inForceOn axisRefusal acceptable
+  rules-not n h e-is =
+      let i = in-force-refused _ _ e n h e-is in
+      rw (ne-eqb (refusalOn (a .nameplate) (a .parameters)) 0 (λ z. i .1 (sym (i .0) ∙ z)))
+
+pub ruleset rulings = (keeps-is, rules-taken, rules-out, rules-not)
+
+-- ---- the limits as facts
+pub record Limits (a : Axis) : Type 0 where
+  pub none : refusalOn (a .nameplate) (a .parameters) ≡ 0
+  pub travel : Inside (rulesOn a) (a .travel)
+  pub offset : natAbs (a .offset) < rulesOn a .span .0
+  pub preset : natAbs (a .preset) < rulesOn a .span .0
+  pub stored : natAbs (a .stored) < rulesOn a .span .0
+
+pub limits-of : (a : Axis) → acceptable a ≡ true → Limits a
+unfolding acceptable inRange
+limits-of a e =
+    let f = rulesOn a in
+    let h = and-split _ (keeps f a) e in
+    let s = and-split _ (inRange (a .stored) (f .span .0)) (h .1) in
+    let p = and-split _ (inRange (a .preset) (f .span .0)) (s .0) in
+    let o = and-split (inside f (a .travel)) (inRange (a .offset) (f .span .0)) (p .0) in
+    record {
+      none = eqb-true _ _ (h .0);
+      travel = inside-true f (a .travel) (o .0);
+      offset = ltb-true _ _ (o .1);
+      preset = ltb-true _ _ (p .1);
+      stored = ltb-true _ _ (s .1);
+    }
+
+pub accepts : (a : Axis) → Limits a → acceptable a ≡ true
+unfolding acceptable inRange
+accepts a l =
+    rw (
+      eq-eqb _ _ (l .none),
+      inside-is (rulesOn a) (a .travel) (l .travel),
+      lt-ltb _ _ (l .offset),
+      lt-ltb _ _ (l .preset),
+      lt-ltb _ _ (l .stored),
+    )
+
+-- ---- the answer taken apart
+taken-by : (b : Bool) (g f : InForce) → answer Refused (Taken g) (when (not b) 16) ≡ Taken f → (b ≡ true) × (f ≡ g)
+taken-by true g f e = (refl, cc)
+taken-by false g f e = let z : _≡_ {A = ℕ} 0 1 = cc in absurd (omega arith)
+
+outside-by : (b : Bool) (g : InForce) (n : ℕ) → answer Refused (Taken g) (when (not b) 16) ≡ Refused n → (when (not b) 16 ≡ n) × (n ≡ 0 → ⊥)
+outside-by true g n e = let z : _≡_ {A = ℕ} 0 1 = cc in absurd (omega arith)
+outside-by false g n e = let z : 16 ≡ n = cc in (z, λ h. omega arith)
+
+module _ (a : Axis) (e : Effect) where
+  pub ready-of : (f : InForce) → e ≡ Taken f → e ≡ inForceOn a → Ready a f
+  unfolding inForceOn axisRefusal
+  ready-of f h e-is =
+      let i = taken-by (acceptable a) (rulesOn a) f (sym e-is ∙ h) in
+      let l = limits-of a (i .0) in
+      record { is = i .1; stands = i .0; travel = rw (i .1) (l .travel); offset = rw (i .1) (l .offset) }
+
+  pub outside-of : (n : ℕ) → e ≡ Refused n → e ≡ inForceOn a → (axisRefusal a ≡ n) × (n ≡ 0 → ⊥)
+  unfolding inForceOn axisRefusal
+  outside-of n h e-is = outside-by (acceptable a) (rulesOn a) n (sym e-is ∙ h)
+
+module _ (a : Axis) (f : InForce) (r : Ready a f) where
+  pub stands-none : axisRefusal a ≡ 0
+  unfolding axisRefusal
+  stands-none = rw (r .stands)
+
+  pub offset-fits : SFits w64 (a .offset)
+  offset-fits = fits-abs _ (omega (arith, r .offset, r .travel .sound .span-most))

@@ -1,0 +1,4 @@
+pub mod AxisLaws
+pub mod PositionLaws
+pub mod ReadingLaws
+pub mod PresetLaws

@@ -1,0 +1,154 @@
+-- Start and reading: each way out, by the answers of the calls on that way.
+-- Assumes nothing.
+use mathlib.Core.Path.{_≡_, sym, _∙_}
+use Prim.Native.Nat.{ℕ, _<_}
+use native.Mathlib.Omega.{arith}
+use Rattle.encoder.specs.declared.nameplate.Nameplate.{Nameplate}
+use Rattle.encoder.specs.declared.parameters.Parameters.{Parameters}
+use Rattle.encoder.specs.declared.effect.InForce.{InForce}
+use Rattle.encoder.specs.declared.effect.Effect.{Effect}
+use Rattle.encoder.specs.declared.effect.Effect.the-variants.{Taken, Refused as NotInForce}
+use Rattle.sensor.specs.declared.Reading.{Reading}
+use Rattle.sensor.specs.declared.Reading.the-variants.{Number, Refused as NotRead}
+use Rattle.encoder.specs.Refusal.{_before_}
+use Rattle.sensor.specs.Reading.{rawOf, stepRefusal, numbered}
+use Rattle.encoder.specs.Nameplate.{capacityOf}
+use Rattle.encoder.specs.Parameters.{fieldsOf}
+use Rattle.encoder.specs.InForce.{rulesOf, inForce, Sound}
+use Rattle.encoder.proofs.RefusalLaws.{refused-is, before-first}
+use Rattle.sensor.proofs.ReadingLaws.{reading-taken, reading-refused, reading-lt}
+use Rattle.encoder.proofs.ForceLaws.{in-force-taken, in-force-refused}
+use Rattle.encoder.proofs.SoundLaws.{taken-sound}
+use Rattle.travel.specs.declared.Travel.{Travel}
+use Rattle.travel.specs.declared.Moved.{Moved}
+use Rattle.travel.specs.declared.Moved.the-variants.{To, Refused as NotMoved}
+use Rattle.travel.specs.Travel.{nowhere, started, movedTo, begun, travelRefusal, moved}
+use Rattle.travel.proofs.SensorLaws.{raw-lt}
+use Rattle.travel.proofs.TravelLaws.{moved-kept, read-refusal, to-taken, to-refused, begun-is}
+use Rattle.axis.specs.declared.Axis.{Axis}
+use Rattle.axis.specs.declared.Next.{Next}
+use Rattle.axis.specs.Axis.{rulesOn, axisRefusal, inForceOn, Ready}
+use Rattle.axis.specs.Reading.{accepted, refused, next, fresh, startRefusal, start, travelled, atRaw, readRawRefusal, readRaw, readRefusal, read}
+use Rattle.axis.proofs.AxisLaws.{Limits, ready-of, outside-of, stands-none}
+
+-- ---- the first refusal is the answer
+pub next-first : (a b : Axis) (n m : ℕ) → (n ≡ 0 → ⊥) → refused a n ≡ next a (n before m) b
+next-first a b n m h = rw (before-first n m h) (sym (refused-is (refused a) (accepted b) n h))
+
+pub next-refused : (a b : Axis) (n : ℕ) → (n ≡ 0 → ⊥) → refused a n ≡ next a n b
+next-refused a b n h = sym (refused-is (refused a) (accepted b) n h)
+
+-- so is 16, of any call on a record outside its limits
+pub outside-first : (a b : Axis) (e : Effect) (n m : ℕ) (x : Next) → x ≡ refused a n → e ≡ NotInForce n → e ≡ inForceOn a → x ≡ next a (axisRefusal a before m) b
+outside-first a b e n m x w h e-is = let i = outside-of a e n h e-is in w ∙ rw (i .0) (next-first a b n m (i .1))
+
+-- ---- a raw number
+module _ (a : Axis) (f : InForce) (r : Ready a f) (raw : ℕ) (m : Moved) (x : Next) where
+  pub take-to : (k : Travel) → m ≡ To k → x ≡ accepted (travelled a k) → m ≡ moved f (a .travel) raw → x ≡ readRaw a raw
+  unfolding readRaw readRawRefusal atRaw moved
+  take-to k h w m-is = let i = to-taken m (movedTo f (a .travel) raw) k (travelRefusal f (a .travel) raw) h m-is in w ∙ rw (stands-none a f r, ← r .is, i .0, i .1)
+
+  pub take-no : (n : ℕ) → m ≡ NotMoved n → x ≡ refused a n → m ≡ moved f (a .travel) raw → x ≡ readRaw a raw
+  unfolding readRaw readRawRefusal moved
+  take-no n h w m-is =
+      let i = to-refused m (movedTo f (a .travel) raw) (travelRefusal f (a .travel) raw) n h m-is in
+      w ∙ rw (stands-none a f r, ← r .is, i .0) (next-refused a (atRaw a raw) n (i .1))
+
+pub read-raw-16 : (a : Axis) (e : Effect) (raw n : ℕ) (x : Next) → x ≡ refused a n → e ≡ NotInForce n → e ≡ inForceOn a → x ≡ readRaw a raw
+unfolding readRaw readRawRefusal
+read-raw-16 a e raw n x w h e-is = outside-first a (atRaw a raw) e n _ x w h e-is
+
+-- and the axis that it moves keeps its limits
+pub travelled-kept : (a : Axis) → Limits a → (raw : ℕ) → travelRefusal (rulesOn a) (a .travel) raw ≡ 0 → Limits (atRaw a raw)
+unfolding atRaw rulesOn
+travelled-kept a l raw e =
+    let h = raw-lt (rulesOn a) (a .travel .last .0) raw (sym (read-refusal (rulesOn a) (a .travel) (l .travel) raw) ∙ e) in
+    record {
+      none = l .none;
+      travel = moved-kept (rulesOn a) (a .travel) raw (l .travel) h;
+      offset = l .offset;
+      preset = l .preset;
+      stored = l .stored;
+    }
+
+-- ---- a step and a turn
+module _ (a : Axis) (e : Effect) (s t : ℕ) (x : Next) where
+  pub read-16 : (n : ℕ) → x ≡ refused a n → e ≡ NotInForce n → e ≡ inForceOn a → x ≡ read a s t
+  unfolding read readRefusal
+  read-16 n w h e-is = outside-first a (atRaw a (rawOf (a .nameplate) s t)) e n _ x w h e-is
+
+  module _ (f : InForce) (h : e ≡ Taken f) (e-is : e ≡ inForceOn a) (q : Reading) where
+    pub read-no : (n : ℕ) → x ≡ refused a n → q ≡ NotRead n → q ≡ numbered (a .nameplate) s t → x ≡ read a s t
+    unfolding read readRefusal
+    read-no n w g q-is =
+        let i = reading-refused (a .nameplate) s t q n g q-is in
+        w ∙ rw (stands-none a f (ready-of a e f h e-is), i .0) (next-first a (atRaw a (rawOf (a .nameplate) s t)) n _ (i .1))
+
+    pub read-number : (raw : ℕ) → q ≡ Number raw → q ≡ numbered (a .nameplate) s t → x ≡ readRaw a raw → x ≡ read a s t
+    unfolding read readRefusal readRaw readRawRefusal
+    read-number raw g q-is w =
+        let i = reading-taken (a .nameplate) s t q raw g q-is in
+        let z = stands-none a f (ready-of a e f h e-is) in
+        rw (z, i .0) (rw (z, i .1) at w)
+
+pub ruleset readings = (ready-of, take-to, take-no, read-raw-16, read-16, read-no, read-number)
+
+-- ---- the start
+module _ (n : Nameplate) (p : Parameters) (f : InForce) (raw : ℕ) (s : Sound f) (h : raw < f .capacity .0) (m : Moved) (x : Next) where
+  pub begin-to : (k : Travel) (y : Axis) → m ≡ To k → x ≡ accepted y → y ≡ fresh n p k → m ≡ begun f raw → x ≡ accepted (fresh n p (started f raw))
+  begin-to k y o w y-is m-is =
+      let c : To k ≡ To (started f raw) = sym o ∙ m-is ∙ begun-is f raw s h in
+      let k-is : k ≡ started f raw = cc in
+      w ∙ rw (y-is, k-is)
+
+  -- a raw number of the sensor is not refused
+  pub begin-never : (j : ℕ) → m ≡ NotMoved j → m ≡ begun f raw → x ≡ accepted (fresh n p (started f raw))
+  begin-never j o m-is =
+      let c : NotMoved j ≡ To (started f raw) = sym o ∙ m-is ∙ begun-is f raw s h in
+      let z : _≡_ {A = ℕ} 0 1 = cc in
+      absurd (omega arith)
+
+pub unstarted-is : (n : Nameplate) (p : Parameters) (y : Axis) (j : ℕ) (x : Next) → x ≡ refused y j → y ≡ fresh n p nowhere
+    → x ≡ refused (fresh n p nowhere) j
+unstarted-is n p y j x w y-is = w ∙ rw y-is
+
+raw-below : (n : Nameplate) (p : Parameters) (f : InForce) (raw : ℕ) → f ≡ rulesOf n (fieldsOf p) → raw < capacityOf n → raw < f .capacity .0
+unfolding rulesOf
+raw-below n p f raw f-is h = rw f-is h
+
+abbrev pub first : Nameplate → Parameters → ℕ → ℕ → Axis
+first n p s t = fresh n p (started (rulesOf n (fieldsOf p)) (rawOf n s t))
+
+module _ (n : Nameplate) (p : Parameters) (e : Effect) where
+  pub start-sound : (f : InForce) → e ≡ Taken f → e ≡ inForce n p → Sound f
+  start-sound f h e-is = let i = in-force-taken n p e f h e-is in rw (i .1) (taken-sound n p (i .0))
+
+  module _ (s t : ℕ) (x : Next) where
+    pub start-parameters : (j : ℕ) → e ≡ NotInForce j → x ≡ refused (fresh n p nowhere) j → e ≡ inForce n p → x ≡ start n p s t
+    unfolding start startRefusal
+    start-parameters j h w e-is =
+        let i = in-force-refused n p e j h e-is in
+        w ∙ rw (i .0) (next-first (fresh n p nowhere) (first n p s t) j (stepRefusal n s t) (i .1))
+
+  module _ (s t : ℕ) (f : InForce) (h : e ≡ Taken f) (q : Reading) where
+    pub start-lt : (raw : ℕ) → q ≡ Number raw → q ≡ numbered n s t → e ≡ inForce n p → raw < f .capacity .0
+    start-lt raw g q-is e-is =
+        let j = reading-taken n s t q raw g q-is in
+        let l : raw < capacityOf n = rw (j .1) (reading-lt n s t (j .0)) in
+        raw-below n p f raw (in-force-taken n p e f h e-is .1) l
+
+    module _ (x : Next) where
+      pub start-reading : (j : ℕ) → q ≡ NotRead j → x ≡ refused (fresh n p nowhere) j → q ≡ numbered n s t → e ≡ inForce n p → x ≡ start n p s t
+      unfolding start startRefusal
+      start-reading j g w q-is e-is =
+          let i = reading-refused n s t q j g q-is in
+          w ∙ rw (in-force-taken n p e f h e-is .0, i .0) (next-refused (fresh n p nowhere) (first n p s t) j (i .1))
+
+      pub start-to : (raw : ℕ) → q ≡ Number raw → x ≡ accepted (fresh n p (started f raw)) → q ≡ numbered n s t → e ≡ inForce n p → x ≡ start n p s t
+      unfolding start startRefusal
+      start-to raw g w q-is e-is =
+          let i = in-force-taken n p e f h e-is in
+          let j = reading-taken n s t q raw g q-is in
+          w ∙ rw (i .0, j .0, i .1, j .1)
+
+pub ruleset starts = (unstarted-is, begin-to, begin-never, start-sound, start-lt, start-parameters, start-reading, start-to)

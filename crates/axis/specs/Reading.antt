@@ -1,0 +1,60 @@
+-- Start and reading: each yields the next axis, or the axis as it was beside the number of the refusal (document 01, "The axis", rules 2 and 3).
+-- Assumes nothing.
+use Prim.Native.Nat.{ℕ}
+use lib.IntN.{pos}
+use Rattle.encoder.specs.declared.nameplate.Nameplate.{Nameplate}
+use Rattle.encoder.specs.declared.parameters.Parameters.{Parameters}
+use Rattle.encoder.specs.Refusal.{_before_, answer}
+use Rattle.sensor.specs.Reading.{rawOf, stepRefusal}
+use Rattle.encoder.specs.Parameters.{fieldsOf, refusalOn}
+use Rattle.encoder.specs.InForce.{rulesOf}
+use Rattle.travel.specs.declared.Travel.{Travel}
+use Rattle.travel.specs.Travel.{nowhere, started, travelRefusal, movedTo}
+use Rattle.axis.specs.declared.Axis.{Axis}
+use Rattle.axis.specs.declared.Next.{Next}
+use Rattle.axis.specs.Axis.{rulesOn, axisRefusal}
+
+abbrev pub accepted : Axis → Next
+accepted a = record { axis = a; refusal = 0 }
+
+abbrev pub refused : Axis → ℕ → Next
+refused a n = record { axis = a; refusal = n }
+
+-- the answer to a call on axis a by the number of its refusal: axis b at 0
+abbrev pub next : Axis → ℕ → Axis → Next
+next a n b = answer (refused a) (accepted b) n
+
+-- 2. an axis of a plate and parameters: no offset yet, and no preset
+abbrev pub fresh : Nameplate → Parameters → Travel → Axis
+fresh n p k = record { nameplate = n; parameters = p; travel = k; offset = pos 0; preset = pos 0; stored = pos 0 }
+
+-- 7, 3, 4, 5, 6, 8, 9
+unfoldable pub startRefusal : Nameplate → Parameters → ℕ → ℕ → ℕ
+startRefusal n p s t = refusalOn n p before stepRefusal n s t
+
+-- what a refused start leaves is no started axis: every call on it gets 16
+unfoldable pub start : Nameplate → Parameters → ℕ → ℕ → Next
+start n p s t = next (fresh n p nowhere) (startRefusal n p s t) (fresh n p (started (rulesOf n (fieldsOf p)) (rawOf n s t)))
+
+-- 3. an axis that has moved
+abbrev pub travelled : Axis → Travel → Axis
+travelled a k =
+    record { nameplate = a .nameplate; parameters = a .parameters; travel = k; offset = a .offset; preset = a .preset; stored = a .stored }
+
+unfoldable pub atRaw : Axis → ℕ → Axis
+atRaw a raw = travelled a (movedTo (rulesOn a) (a .travel) raw)
+
+-- a raw number: 16, 9, 10 (the travel's own 16 lies behind that of the axis)
+unfoldable pub readRawRefusal : Axis → ℕ → ℕ
+readRawRefusal a raw = axisRefusal a before travelRefusal (rulesOn a) (a .travel) raw
+
+unfoldable pub readRaw : Axis → ℕ → Next
+readRaw a raw = next a (readRawRefusal a raw) (atRaw a raw)
+
+-- step s and turn t: 16, 8, 9, 10
+unfoldable pub readRefusal : Axis → ℕ → ℕ → ℕ
+readRefusal a s t =
+    axisRefusal a before stepRefusal (a .nameplate) s t before travelRefusal (rulesOn a) (a .travel) (rawOf (a .nameplate) s t)
+
+unfoldable pub read : Axis → ℕ → ℕ → Next
+read a s t = next a (readRefusal a s t) (atRaw a (rawOf (a .nameplate) s t))

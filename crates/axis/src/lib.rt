@@ -1,0 +1,91 @@
+// The axis: a nameplate, its parameters, where the shaft stands, and the offset by which presets shift the position (document 01, "The
+// axis"). Each call hands back the next axis, or the axis as it was beside the number of the refusal.
+mod position;
+mod preset;
+mod reading;
+
+ghost use mathlib.Core.Path.{_≡_};
+ghost use Rattle.axis.specs.Axis.{keeps, inForceOn};
+ghost use Rattle.axis.specs.Reading.{accepted, refused};
+use encoder::effect::Effect;
+use encoder::effect::InForce;
+use encoder::effect::in_force;
+use encoder::nameplate::Nameplate;
+use encoder::parameters::Parameters;
+use encoder::quantity::Units;
+use encoder::refusal;
+use ring::between;
+use travel::Travel;
+
+pub struct Axis {
+    pub nameplate: Nameplate,
+    pub parameters: Parameters,
+    // place and last reading
+    pub travel: Travel,
+    // what presets have added to the position
+    pub offset: i64,
+    // the last preset
+    pub preset: i64,
+    // the held preset value
+    pub stored: i64,
+}
+
+pub struct Next {
+    pub axis: Axis,
+    // 0 where the call was taken
+    pub refusal: u8,
+}
+
+pub enum Reported {
+    At { position: Units, unshifted: Units },
+    Refused(u8),
+}
+
+impl Axis {
+    // What is in force, on an axis within its limits.
+    pub fn rules(self) -> Effect
+        ensures { λ r. ⌜ r ≡ inForceOn self ⌝ }
+    {
+        let plate = self.nameplate;
+        let parameters = self.parameters;
+        match in_force(plate, parameters) {
+            Effect::Taken(rules) => {
+                if self.keeps(rules) {
+                    return Effect::Taken(rules);
+                }
+                Effect::Refused(refusal::NO_AXIS)
+            }
+            Effect::Refused(_) => Effect::Refused(refusal::NO_AXIS),
+        }
+    }
+
+    // The numbers of the record are within what is in force.
+    fn keeps(self, rules: InForce) -> bool
+        ensures { λ r. ⌜ r ≡ keeps rules self ⌝ }
+    {
+        let span = rules.span.0;
+        let travel = self.travel;
+        let offset = between(self.offset, span);
+        let preset = between(self.preset, span);
+        let stored = between(self.stored, span);
+        travel.inside(rules) & offset & preset & stored
+    }
+
+    fn accepted(self) -> Next
+        ensures { λ r. ⌜ r ≡ accepted self ⌝ }
+    {
+        Next {
+            axis: self,
+            refusal: 0,
+        }
+    }
+
+    fn refused(self, n: u8) -> Next
+        ensures { λ r. ⌜ r ≡ refused self n ⌝ }
+    {
+        Next {
+            axis: self,
+            refusal: n,
+        }
+    }
+}

@@ -1,0 +1,162 @@
+-- Every axis that a call yields from an acceptable one is acceptable, so that 16 never comes of a record of our own making: what a call
+-- changes of the record is within the limits by the rule that changes it.
+-- Assumes nothing.
+use mathlib.Core.Path.{_≡_, refl}
+use mathlib.Core.Bool.{Bool, true, false, not}
+use mathlib.Core.List.{List, [], _∷_}
+use Prim.Native.Nat.{ℕ, zero, suc, _<_}
+use native.Mathlib.Omega.{arith}
+use native.Mathlib.Nat as N
+use lib.Dec.{ltb}
+use lib.IntN.{ℤ, pos, natAbs, _+ℤ_, _-ℤ_}
+use borrow.Author.Tests.{ltb-true}
+use Rattle.integer.proofs.Signed.{signed, apart, diff-is}
+use Rattle.integer.proofs.Size.{abs-is}
+use Rattle.integer.proofs.Modulus.{modulo-lt}
+use Rattle.ring.specs.Ring.{inRange}
+use Rattle.encoder.specs.declared.nameplate.Nameplate.{Nameplate}
+use Rattle.encoder.specs.declared.parameters.Parameters.{Parameters}
+use Rattle.encoder.specs.Refusal.{wrongPreset, classOff, when}
+use Rattle.sensor.specs.Reading.{rawOf, stepRefusal}
+use Rattle.encoder.specs.Nameplate.{capacityOf}
+use Rattle.encoder.specs.Parameters.{fieldsOf, refusalOn}
+use Rattle.encoder.specs.InForce.{rulesOf}
+use Rattle.encoder.proofs.RefusalLaws.{before-none}
+use Rattle.sensor.proofs.ReadingLaws.{reading-lt}
+use Rattle.encoder.proofs.SoundLaws.{taken-sound}
+use Rattle.travel.specs.Travel.{nowhere, started as travelStarted, unshifted, travelRefusal}
+use Rattle.travel.proofs.TravelLaws.{inside-is, nowhere-out, started-kept as travel-kept}
+use Rattle.axis.specs.declared.Axis.{Axis}
+use Rattle.axis.specs.Axis.{rulesOn, acceptable, axisRefusal, unshiftedOf, positionOf}
+use Rattle.axis.specs.Reading.{next, fresh, startRefusal, start, atRaw, readRawRefusal, readRaw, readRefusal, read}
+use Rattle.axis.specs.Preset.{valueRefusal, presetRefusal, asked, presetted, preset, holding, store}
+use Rattle.batch.specs.Batch.{after, batchRefusal, batch}
+use Rattle.calls.specs.Calls.{Call, reading, rawReading, presetting, storing, batching, yields}
+use Rattle.axis.proofs.AxisLaws.{Limits, limits-of, accepts}
+use Rattle.axis.proofs.ReadingLaws.{first, travelled-kept}
+
+apart-lt : (x y n : ℕ) → x < n → y < n → natAbs (pos x -ℤ pos y) < n
+apart-lt x y n h k = let z = pos x -ℤ pos y in omega (signed, diff-is (pos x) (pos y), abs-is z, apart z)
+
+-- the axis of an answer is the one before, or that of a call that was taken
+by-number : (a b : Axis) (n : ℕ) → Limits a → (n ≡ 0 → Limits b) → Limits (next a n b .axis)
+by-number a b zero l k = k refl
+by-number a b (suc n) l k = l
+
+module _ (a : Axis) (l : Limits a) where
+  -- ---- a reading that is taken moves the travel within its limits
+  raw-kept : (raw : ℕ) → Limits (readRaw a raw .axis)
+  unfolding readRaw readRawRefusal
+  raw-kept raw = by-number a (atRaw a raw) (readRawRefusal a raw) l (λ e. travelled-kept a l raw (before-none (axisRefusal a) _ e .1))
+
+  read-kept : (s t : ℕ) → Limits (read a s t .axis)
+  unfolding read readRefusal
+  read-kept s t =
+      let raw = rawOf (a .nameplate) s t in
+      let later = travelRefusal (rulesOn a) (a .travel) raw in
+      by-number a (atRaw a raw) (readRefusal a s t) l (λ e. travelled-kept a l raw (before-none (stepRefusal (a .nameplate) s t) later (before-none (axisRefusal a) _ e .1) .1))
+
+  -- ---- a preset's offset is a difference of two positions, and its value was tested
+  span-least : 0 < rulesOn a .span .0
+  span-least = l .travel .sound .span-least
+
+  asked-lt : (v : ℤ) (relative : Bool) → asked a v relative < rulesOn a .span .0
+  unfolding asked
+  asked-lt v true = modulo-lt (pos (positionOf a) +ℤ v) span-least
+  asked-lt v false = modulo-lt v span-least
+
+  unshifted-lt : unshiftedOf a < rulesOn a .span .0
+  unfolding unshiftedOf unshifted
+  unshifted-lt = N.mod-lt _ span-least
+
+  value-lt : (v : ℤ) → presetRefusal a v ≡ 0 → natAbs v < rulesOn a .span .0
+  unfolding presetRefusal valueRefusal inRange
+  value-lt v e =
+      let f = rulesOn a in
+      let later = when (not (ltb (natAbs v) (f .span .0))) wrongPreset in
+      let h = before-none (when (not (f .enabled)) classOff) later (before-none (axisRefusal a) _ e .1) .1 in
+      within (natAbs v) (f .span .0) (ltb (natAbs v) (f .span .0)) refl h
+    where
+      within : (x n : ℕ) (b : Bool) → ltb x n ≡ b → when (not b) 11 ≡ 0 → x < n
+      within x n true t h = ltb-true x n t
+      within x n false t h = absurd (omega arith)
+
+  preset-kept : (v : ℤ) (relative : Bool) → Limits (preset a v relative .axis)
+  unfolding preset presetted rulesOn
+  preset-kept v relative =
+      by-number a (presetted a v relative) (presetRefusal a v) l
+      (λ e.
+      record {
+        none = l .none;
+        travel = l .travel;
+        offset = apart-lt (asked a v relative) (unshiftedOf a) (rulesOn a .span .0) (asked-lt v relative) unshifted-lt;
+        preset = value-lt v e;
+        stored = l .stored;
+      })
+
+  store-kept : (v : ℤ) → Limits (store a v .axis)
+  unfolding store rulesOn
+  store-kept v =
+      by-number a (holding a v) (presetRefusal a v) l
+      (λ e. record { none = l .none; travel = l .travel; offset = l .offset; preset = l .preset; stored = value-lt v e })
+
+-- ---- a batch is readings one after the other
+after-kept : (a : Axis) (s : List ℕ) → Limits a → Limits (after a s)
+unfolding after
+after-kept a [] l = l
+after-kept a (raw ∷ s) l = after-kept (readRaw a raw .axis) s (raw-kept a l raw)
+
+batch-kept : (a : Axis) (s out : List ℕ) → Limits a → Limits (batch a s out .axis)
+unfolding batch
+batch-kept a s out l = by-number a (after a s) (batchRefusal a s out) l (λ e. after-kept a s l)
+
+-- ---- the theorem
+call-kept : (a : Axis) (c : Call) → Limits a → Limits (yields a c .axis)
+call-kept a (reading step turn) l = read-kept a l step turn
+call-kept a (rawReading raw) l = raw-kept a l raw
+call-kept a (presetting v relative) l = preset-kept a l v relative
+call-kept a (storing v) l = store-kept a l v
+call-kept a (batching raws positions) l = batch-kept a raws positions l
+
+pub limits-kept : (a : Axis) (c : Call) → acceptable a ≡ true → acceptable (yields a c .axis) ≡ true
+limits-kept a c h = accepts (yields a c .axis) (call-kept a c (limits-of a h))
+
+-- ---- the start: what is started is acceptable, and what is refused is no axis
+begun-kept : (n : Nameplate) (p : Parameters) (raw : ℕ) → refusalOn n p ≡ 0 → raw < capacityOf n → Limits (fresh n p (travelStarted (rulesOf n (fieldsOf p)) raw))
+unfolding rulesOn rulesOf
+begun-kept n p raw e h =
+    let s = taken-sound n p e in
+    record {
+      none = e;
+      travel = travel-kept (rulesOf n (fieldsOf p)) raw s h;
+      offset = s .span-least;
+      preset = s .span-least;
+      stored = s .span-least;
+    }
+
+module _ (n : Nameplate) (p : Parameters) (s t : ℕ) where
+  by-start : (k : ℕ) → startRefusal n p s t ≡ k → next (fresh n p nowhere) k (first n p s t) .refusal ≡ 0
+      → acceptable (next (fresh n p nowhere) k (first n p s t) .axis) ≡ true
+  unfolding startRefusal
+  by-start zero e z =
+      let h = before-none (refusalOn n p) (stepRefusal n s t) e in
+      accepts _ (begun-kept n p (rawOf n s t) (h .0) (reading-lt n s t (h .1)))
+  by-start (suc k) e z = absurd (omega arith)
+
+  pub started-kept : start n p s t .refusal ≡ 0 → acceptable (start n p s t .axis) ≡ true
+  unfolding start
+  started-kept z = by-start (startRefusal n p s t) refl z
+
+  by-refused : (k : ℕ) → (next (fresh n p nowhere) k (first n p s t) .refusal ≡ 0 → ⊥) → acceptable (next (fresh n p nowhere) k (first n p s t) .axis) ≡ false
+  by-refused zero z = absurd (z refl)
+  by-refused (suc k) z = outside-nowhere (acceptable (fresh n p nowhere)) refl
+    where
+      outside-nowhere : (b : Bool) → acceptable (fresh n p nowhere) ≡ b → b ≡ false
+      outside-nowhere false e = refl
+      outside-nowhere true e =
+          let i = limits-of (fresh n p nowhere) e .travel in
+          nowhere-out (rulesOn (fresh n p nowhere)) true (inside-is (rulesOn (fresh n p nowhere)) nowhere i)
+
+  pub refused-outside : (start n p s t .refusal ≡ 0 → ⊥) → acceptable (start n p s t .axis) ≡ false
+  unfolding start
+  refused-outside z = by-refused (startRefusal n p s t) z

@@ -1,0 +1,107 @@
+-- What parameters that are taken put in force is within the limits: M and L by rows 4 and 5 with scaling on, and by the nameplate without.
+-- Assumes nothing.
+use mathlib.Core.Path.{_≡_, refl}
+use mathlib.Core.Bool.{Bool, true, false, cond, _||_, true≢false}
+use Prim.Native.Nat.{ℕ, _*_, _^_, _≤_}
+use native.Mathlib.Omega.{arith}
+use native.Mathlib.Nat as N
+use lib.Dec.{eqb, ltb}
+use borrow.Author.Tests.{leb-true, le-leb, ltb-false, eqb-false}
+use Rattle.encoder.specs.declared.nameplate.Nameplate.{Nameplate}
+use Rattle.encoder.specs.declared.parameters.Parameters.{Parameters}
+use Rattle.encoder.specs.declared.parameters.Fields.{Fields}
+use Rattle.encoder.specs.declared.effect.InForce.{InForce}
+use Rattle.encoder.specs.Nameplate.{plateFits, capacityOf}
+use Rattle.encoder.specs.Operating.{scalingOn, reservedWrong}
+use Rattle.encoder.specs.Parameters.{fieldsOf, unitsWrong, rangeWrong, speedWrong, fieldsRefusal, refusalOn}
+use Rattle.encoder.specs.InForce.{scaleOf, spanOf, rulesOf, rulesFit, Sound}
+use Rattle.encoder.proofs.PlateLaws.{and-split, plated, capacity-most}
+use Rattle.encoder.proofs.ParameterLaws.{on-plate, taken-plate}
+
+-- ---- the limits, as tests and as facts
+pub sound-of : (f : InForce) → rulesFit f ≡ true → Sound f
+unfolding rulesFit
+sound-of f e =
+    let h = and-split _ _ e in
+    let g = and-split _ _ (h .0) in
+    let d = and-split _ _ (g .0) in
+    let c = and-split _ _ (d .0) in
+    let b = and-split _ _ (c .0) in
+    let a = and-split _ _ (b .0) in
+    let z = and-split _ _ (a .0) in
+    record {
+      steps-least = leb-true _ _ (z .0);
+      steps-most = leb-true _ _ (z .1);
+      capacity-least = leb-true _ _ (a .1);
+      capacity-most = leb-true _ _ (b .1);
+      scale-least = leb-true _ _ (c .1);
+      scale-most = leb-true _ _ (d .1);
+      span-least = leb-true _ _ (g .1);
+      span-most = leb-true _ _ (h .1);
+    }
+
+pub fits-of : (f : InForce) → Sound f → rulesFit f ≡ true
+unfolding rulesFit
+fits-of f s =
+    rw (
+      le-leb _ _ (s .steps-least),
+      le-leb _ _ (s .steps-most),
+      le-leb _ _ (s .capacity-least),
+      le-leb _ _ (s .capacity-most),
+      le-leb _ _ (s .scale-least),
+      le-leb _ _ (s .scale-most),
+      le-leb _ _ (s .span-least),
+      le-leb _ _ (s .span-most),
+    )
+
+-- ---- rows 4 and 5, of parameters that are taken
+or-split : (a b : Bool) → (a || b) ≡ false → (a ≡ false) × (b ≡ false)
+or-split false b e = (refl, e)
+or-split true b e = absurd (true≢false e)
+
+none-refused : (a b c d : Bool) → _≡_ {A = ℕ} (cond a 3 (cond b 4 (cond c 5 (cond d 6 0)))) 0 → (b ≡ false) × (c ≡ false)
+none-refused true b c d e = absurd (omega arith)
+none-refused false true c d e = absurd (omega arith)
+none-refused false false true d e = absurd (omega arith)
+none-refused false false false d e = (refl, refl)
+
+-- M and L in force, by whether scaling is on
+module _ (n : Nameplate) (f : Fields) (fits : plateFits n ≡ true) (none : fieldsRefusal n f ≡ 0) where
+  bounds : (b : Bool) → scalingOn (f .operating) ≡ b → (1 ≤ scaleOf n f) × (scaleOf n f ≤ 65536) × (1 ≤ spanOf n f) × (spanOf n f ≤ 2 ^ 31)
+  unfolding fieldsRefusal
+  bounds true on =
+      let p = plated n fits in
+      let z = none-refused (reservedWrong (f .four) (f .operating)) (unitsWrong n f) (rangeWrong n f) (speedWrong f) none in
+      let u = or-split (eqb (f .units .0) 0) (ltb (n .steps .0) (f .units .0)) (rw on at (z .0)) in
+      let r = or-split (ltb (f .range .0) (f .units .0)) (ltb (f .units .0 * n .turns .0) (f .range .0)) (rw on at (z .1)) in
+      let a = eqb-false (f .units .0) 0 (u .0) in
+      let b = ltb-false (n .steps .0) (f .units .0) (u .1) in
+      let c = ltb-false (f .range .0) (f .units .0) (r .0) in
+      let d = ltb-false (f .units .0 * n .turns .0) (f .range .0) (r .1) in
+      let m : f .units .0 ≤ 65536 = omega (arith, p .steps-most) in
+      let k : f .units .0 * n .turns .0 ≤ 65536 * 32768 = N.mul-le-mul m (p .turns-most) in
+      rw on (omega arith, m, omega arith, omega arith)
+  bounds false off =
+      let p = plated n fits in
+      let k : 2 * 1 ≤ capacityOf n = N.mul-le-mul (p .steps-least) (p .turns-least) in
+      rw off (omega (arith, p .steps-least), p .steps-most, omega arith, capacity-most n fits)
+
+  in-force-sound : Sound (rulesOf n f)
+  unfolding rulesOf
+  in-force-sound =
+      let b = bounds (scalingOn (f .operating)) refl in
+      let p = plated n fits in
+      let c : 2 * 1 ≤ capacityOf n = N.mul-le-mul (p .steps-least) (p .turns-least) in
+      record {
+        steps-least = omega (arith, p .steps-least);
+        steps-most = p .steps-most;
+        capacity-least = omega arith;
+        capacity-most = capacity-most n fits;
+        scale-least = b .0;
+        scale-most = b .1;
+        span-least = b .2;
+        span-most = b .3;
+      }
+
+pub taken-sound : (n : Nameplate) (p : Parameters) → refusalOn n p ≡ 0 → Sound (rulesOf n (fieldsOf p))
+taken-sound n p e = let h = taken-plate n p e in in-force-sound n (fieldsOf p) h (rw (on-plate n p h) at e)

@@ -1,0 +1,54 @@
+-- How far an integer lies from 0: of sums, products and quotients, and that a number that is near enough fits its type.
+-- Assumes nothing.
+use mathlib.Core.Path.{_≡_, refl}
+use Prim.Native.Nat.{ℕ, suc, _+_, _*_, _/_, _<_, _≤_, _^_}
+use native.Mathlib.Omega.{arith}
+use native.Mathlib.Nat as N
+use lib.Dec.{T}
+use lib.IntN.{ℤ, pos, negsuc, negℤ, natAbs, _+ℤ_, _-ℤ_, _*ℤ_}
+use lib.Signed.{nonNeg, quotZ}
+use mir.Syntax.{Width}
+use mir.Val.{Fits, SFits, toZ, ofZ, bits, hbits}
+use mir.ValLaws.{toZ-ofZ}
+use Rattle.integer.proofs.Signed.{above, below, apart, neg-is, add-is, diff-is}
+
+pub abs-is : (z : ℤ) → natAbs z ≡ above z + below z
+abs-is (pos n) = omega arith
+abs-is (negsuc n) = omega arith
+
+pub abs-add : (x y : ℤ) → natAbs (x +ℤ y) ≤ natAbs x + natAbs y
+abs-add x y = omega (arith, abs-is x, abs-is y, abs-is (x +ℤ y), add-is x y, apart (x +ℤ y))
+
+pub abs-diff : (x y : ℤ) → natAbs (x -ℤ y) ≤ natAbs x + natAbs y
+abs-diff x y = omega (arith, abs-is x, abs-is y, abs-is (x -ℤ y), diff-is x y, apart (x -ℤ y))
+
+-- ---- in the machine's words
+pub reads : {w : Width} {z : ℤ} → SFits w z → toZ w (ofZ w z) ≡ z
+reads {w} {z} f = toZ-ofZ w z f
+
+pub fits-abs : {w : Width} (z : ℤ) → natAbs z < 2 ^ hbits w → SFits w z
+fits-abs (pos n) h = record { sfits = h }
+fits-abs (negsuc n) h = record { sfits = N.lt-trans (N.le-refl (suc n)) h }
+
+-- a number that is not below 0 as an unsigned one
+pub to-nat : {w : Width} (z : ℤ) → (below z ≡ 0) × (natAbs z < 2 ^ bits w) → T (nonNeg z) × Fits w (natAbs z)
+to-nat (pos n) h = (tt, record { fits = h .1 })
+to-nat (negsuc n) h = absurd (omega arith)
+
+-- ---- products and quotients
+abs-neg : (z : ℤ) → natAbs (negℤ z) ≡ natAbs z
+abs-neg z = omega (arith, abs-is z, abs-is (negℤ z), neg-is z)
+
+abs-mul : (x y : ℤ) → natAbs (x *ℤ y) ≡ natAbs x * natAbs y
+abs-mul (pos a) (pos b) = refl
+abs-mul (pos a) (negsuc b) = abs-neg (pos (a * suc b))
+abs-mul (negsuc a) (pos b) = abs-neg (pos (suc a * b))
+abs-mul (negsuc a) (negsuc b) = refl
+
+pub mul-le : (x y : ℤ) {a b : ℕ} → natAbs x ≤ a → natAbs y ≤ b → natAbs (x *ℤ y) ≤ a * b
+mul-le x y h k = rw (abs-mul x y) (N.mul-le-mul h k)
+
+-- divided by a natural number and cut towards zero
+pub quot-le : (z : ℤ) (n : ℕ) → natAbs (quotZ z (pos n)) ≤ natAbs z
+quot-le (pos a) n = N.div-le-self a n
+quot-le (negsuc a) n = rw (abs-neg (pos (suc a / n))) (N.div-le-self (suc a) n)

@@ -1,0 +1,153 @@
+-- Each way out of the functions on a ring: a number and the place that it is counted to differ by a multiple of n.
+-- Assumes nothing.
+use mathlib.Core.Path.{_≡_, refl, sym, _∙_}
+use mathlib.Core.Bool.{Bool, true, false, _&&_, and-true, true≢false}
+use Prim.Native.Nat.{ℕ, zero, suc, _+_, _-_, _*_, _/_, _%_, _≤_, _<_, _^_}
+use native.Mathlib.Omega.{arith}
+use native.Mathlib.Nat as N
+use lib.Dec.{T, ltb}
+use lib.IntN.{ℤ, pos, negsuc, natAbs, _+ℤ_, _-ℤ_, +ℤ-idl}
+use lib.Signed.{ltZ, nonNeg}
+use borrow.Author.Tests.{lt-ltb, le-ltb, ltb-true, ltb-false, ne-eqb, eq-eqb}
+use mir.Syntax.{w64, w32}
+use mir.Val.{Fits, SFits, toZ, ofZ}
+use mir.ValLaws.{toZ-pos}
+use Rattle.integer.specs.Modulus.{_modulo_}
+use Rattle.integer.proofs.Signed.{signed, above, below, apart, add-is, diff-is}
+use Rattle.integer.proofs.Size.{abs-is, abs-diff, reads, fits-abs, to-nat}
+use Rattle.integer.proofs.Modulus.{modulo-is, modulo-alike}
+use Rattle.ring.specs.Ring.{onRing, inRange}
+
+pub on-ring : (z : ℤ) (n : ℕ) → 0 < n → onRing z n ≡ z modulo n
+unfolding onRing
+on-ring z n h = rw (ne-eqb n 0 (λ e. omega arith))
+
+pub on-none : (z : ℤ) (n : ℕ) → n ≡ 0 → 0 ≡ onRing z n
+unfolding onRing
+on-none z n e = rw (eq-eqb n 0 e)
+
+-- ---- one place and the number of places by which it is moved, both on the ring
+module _ (from by n : ℕ) (f : from < n) (b : by < n) where
+  pub ahead-on : by < n - from → from + by ≡ onRing (pos from +ℤ pos by) n
+  ahead-on h = rw (on-ring (pos from +ℤ pos by) n (omega arith)) (sym (modulo-is _ 0 0 (omega arith) (omega arith)))
+
+  pub ahead-round : n - from ≤ by → by - (n - from) ≡ onRing (pos from +ℤ pos by) n
+  ahead-round h = rw (on-ring (pos from +ℤ pos by) n (omega arith)) (sym (modulo-is _ 0 1 (omega arith) (omega arith)))
+
+  pub back-on : by ≤ from → from - by ≡ onRing (pos from -ℤ pos by) n
+  back-on h =
+      rw (on-ring (pos from -ℤ pos by) n (omega arith))
+      (sym (modulo-is _ 0 0 (omega arith) (omega (arith, diff-is (pos from) (pos by)))))
+
+  pub back-round : from < by → n - (by - from) ≡ onRing (pos from -ℤ pos by) n
+  back-round h =
+      rw (on-ring (pos from -ℤ pos by) n (omega arith))
+      (sym (modulo-is _ 1 0 (omega arith) (omega (arith, diff-is (pos from) (pos by)))))
+
+-- ---- any place and any number: what dividing each by n leaves is the same around the ring
+module _ (place n from by m r : ℕ) (d : ℤ) (fits : SFits w64 d) (from-is : from ≡ place % n) (lt : from < n) (by-is : by ≡ m % n) where
+  pub moved-back : ltZ (toZ w64 (ofZ w64 d)) (pos 0) ≡ true → r ≡ onRing (pos from -ℤ pos by) n → m ≡ natAbs (toZ w64 (ofZ w64 d))
+      → r ≡ onRing (pos place +ℤ d) n
+  moved-back t r-is m-is =
+      let h : 0 < n = omega arith in
+      let x = pos place +ℤ d in
+      let y = pos from -ℤ pos by in
+      let i : m ≡ natAbs d = rw (reads fits) at m-is in
+      let j : ltZ d (pos 0) ≡ true = rw (reads fits) at t in
+      let e : (above x + below y) + m / n * n ≡ (above y + below x) + place / n * n
+      = omega (signed, add-is (pos place) d, diff-is (pos from) (pos by), abs-is d, apart d, N.div-add-mod' place n, N.div-add-mod' m n) in
+      r-is ∙ rw (on-ring x n h, on-ring y n h) (sym (modulo-alike x y (m / n) (place / n) h e))
+
+  pub moved-ahead : ltZ (toZ w64 (ofZ w64 d)) (pos 0) ≡ false → r ≡ onRing (pos from +ℤ pos by) n → m ≡ natAbs (toZ w64 (ofZ w64 d))
+      → r ≡ onRing (pos place +ℤ d) n
+  moved-ahead t r-is m-is =
+      let h : 0 < n = omega arith in
+      let x = pos place +ℤ d in
+      let y = pos from +ℤ pos by in
+      let q = place / n + m / n in
+      let i : m ≡ natAbs d = rw (reads fits) at m-is in
+      let j : ltZ d (pos 0) ≡ false = rw (reads fits) at t in
+      let e : (above x + below y) + 0 * n ≡ (above y + below x) + q * n
+      = omega (signed, add-is (pos place) d, abs-is d, apart d, N.div-add-mod' place n, N.div-add-mod' m n, N.add-mul (place / n) (m / n) n) in
+      r-is ∙ rw (on-ring x n h, on-ring y n h) (sym (modulo-alike x y 0 q h e))
+
+-- ---- what dividing leaves
+pub rest-is : (a n : ℕ) → a < n → a ≡ a % n
+rest-is a n h = sym (N.mod-eq-of-lt h)
+
+pub rest-lt : (a n : ℕ) → 0 < n → a % n < n
+rest-lt a n h = N.mod-lt a h
+
+-- ---- how far a number below 0 is from it: −1 less the number is no longer below 0, and one more than it fits
+module _ (d : ℤ) (f : SFits w64 d) where
+  read-test : (b : Bool) → ltZ (toZ w64 (ofZ w64 d)) (pos 0) ≡ b → ltZ d (pos 0) ≡ b
+  read-test b t = rw (reads f) at t
+
+  most : natAbs d ≤ 2 ^ 63
+  most = within d f
+    where
+      within : (z : ℤ) → SFits w64 z → natAbs z ≤ 2 ^ 63
+      within (pos a) g = omega (arith, g .sfits)
+      within (negsuc a) g = omega (arith, g .sfits)
+
+  module _ (t : ltZ (toZ w64 (ofZ w64 d)) (pos 0) ≡ true) where
+    turned : (below (negsuc 0 -ℤ d) ≡ 0) × (natAbs (negsuc 0 -ℤ d) + 1 ≡ natAbs d)
+    turned =
+        let z = negsuc 0 -ℤ d in
+        let h = read-test true t in
+        omega (signed, diff-is (negsuc 0) d, abs-is z, abs-is d, apart z, apart d)
+
+    pub turned-fits : SFits w64 (negsuc 0 -ℤ toZ w64 (ofZ w64 d))
+    turned-fits = rw (reads f) (fits-abs _ (omega (arith, turned, most)))
+
+    turned-read : toZ w64 (ofZ w64 (negsuc 0 -ℤ toZ w64 (ofZ w64 d))) ≡ negsuc 0 -ℤ d
+    turned-read = reads turned-fits ∙ rw (reads f)
+
+    pub turned-above : T (nonNeg (toZ w64 (ofZ w64 (negsuc 0 -ℤ toZ w64 (ofZ w64 d)))))
+    turned-above = rw turned-read (to-nat {w = w64} (negsuc 0 -ℤ d) (omega (arith, turned, most)) .0)
+
+    pub turned-nat : Fits w64 (natAbs (toZ w64 (ofZ w64 (negsuc 0 -ℤ toZ w64 (ofZ w64 d)))))
+    turned-nat = rw turned-read (record { fits = omega (arith, turned, most) })
+
+    pub turned-next : Fits w64 (natAbs (toZ w64 (ofZ w64 (negsuc 0 -ℤ toZ w64 (ofZ w64 d)))) + 1)
+    turned-next = rw turned-read (record { fits = omega (arith, turned, most) })
+
+    pub turned-is : natAbs (toZ w64 (ofZ w64 (negsuc 0 -ℤ toZ w64 (ofZ w64 d)))) + 1 ≡ natAbs d
+    turned-is = rw turned-read (turned .1)
+
+  module _ (t : ltZ (toZ w64 (ofZ w64 d)) (pos 0) ≡ false) where
+    pub kept-above : T (nonNeg (toZ w64 (ofZ w64 d)))
+    kept-above = rw (reads f) (above-by d (read-test false t))
+      where
+        above-by : (z : ℤ) → ltZ z (pos 0) ≡ false → T (nonNeg z)
+        above-by (pos a) e = tt
+        above-by (negsuc a) e = absurd (true≢false e)
+
+    pub kept-nat : Fits w64 (natAbs (toZ w64 (ofZ w64 d)))
+    kept-nat = rw (reads f) (record { fits = omega (arith, most) })
+
+pub ruleset magnitudes = (turned-fits, turned-above, turned-nat, turned-next, turned-is, kept-above, kept-nat)
+
+-- ---- strictly between −n and n
+read-end : (n : ℕ) → Fits w32 n → toZ w64 n ≡ pos n
+read-end n h = toZ-pos w64 n (omega (arith, h .fits))
+
+pub end-fits : (z : ℤ) (n : ℕ) → natAbs z ≤ 1 → Fits w32 n → SFits w64 (z -ℤ toZ w64 n)
+end-fits z n k h = rw (read-end n h) (fits-abs _ (omega (arith, h .fits, abs-diff z (pos n))))
+
+next-ltb : (a n : ℕ) (b : Bool) → ltb a n ≡ b → ltb a n ≡ ltb (suc a) (suc n)
+next-ltb a n true e = e ∙ sym (lt-ltb (suc a) (suc n) (omega (arith, ltb-true a n e)))
+next-ltb a n false e = e ∙ sym (le-ltb (suc a) (suc n) (omega (arith, ltb-false a n e)))
+
+both-ends : (z : ℤ) (n : ℕ) → (ltZ z (pos n) && ltZ (pos 0 -ℤ pos n) z) ≡ ltb (natAbs z) n
+both-ends (pos a) zero = rw (le-ltb a 0 (omega arith))
+both-ends (pos a) (suc n) = rw (+ℤ-idl (negsuc n)) (and-true (ltb a (suc n)))
+both-ends (negsuc a) zero = rw (le-ltb (suc a) 0 (omega arith))
+both-ends (negsuc a) (suc n) = rw (+ℤ-idl (negsuc n)) (next-ltb a n (ltb a n) refl)
+
+pub between-is : (z : ℤ) (n : ℕ) → SFits w64 z → Fits w32 n
+    → (ltZ (toZ w64 (ofZ w64 z)) (toZ w64 n) && ltZ (toZ w64 (ofZ w64 (pos 0 -ℤ toZ w64 n))) (toZ w64 (ofZ w64 z))) ≡ inRange z n
+unfolding inRange
+between-is z n f h = rw (reads (end-fits (pos 0) n (omega arith) h), read-end n h, reads f) (both-ends z n)
+
+pub ruleset rings = (on-none, ahead-on, ahead-round, back-on, back-round, moved-back, moved-ahead, rest-is, rest-lt, end-fits, between-is)

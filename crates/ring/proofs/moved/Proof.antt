@@ -1,0 +1,19 @@
+-- By the laws of RingLaws, one for each way out.
+-- Assumes nothing.
+use borrow.Author.Needs.{needs}
+use Rattle.ring.proofs.RingLaws.{rings}
+use Rattle.ring.proofs.moved.Statement.{statement}
+use Rattle.ring.proofs.moved.Tie as tie
+
+pub moved-spec : {M : Type 1} → statement M
+moved-spec =
+    tie.close
+    (tie.spec
+    (λ c. search (needs, rings))
+    (λ c κs. search needs)
+    (λ c κs. search needs)
+    (λ c κs. search needs)
+    (λ c κs. search needs)
+    (λ c κs. search needs)
+    (λ c. search (needs, rings))
+    (λ c. search (needs, rings)))

@@ -1,0 +1,14 @@
+-- By the laws of RingLaws, one for each way out.
+-- Assumes nothing.
+use borrow.Author.Needs.{needs}
+use Rattle.ring.proofs.RingLaws.{rings}
+use Rattle.ring.proofs.rest.Statement.{statement}
+use Rattle.ring.proofs.rest.Tie as tie
+
+pub rest-spec : {M : Type 1} → statement M
+rest-spec =
+    tie.close
+    (tie.spec
+    (λ c. search needs)
+    (λ c. search (needs, rings))
+    (λ c. search (needs, rings)))

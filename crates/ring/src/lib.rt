@@ -1,0 +1,63 @@
+// Arithmetic on a ring of n places, 0 to n - 1, on which a signed number counts around.
+ghost use mathlib.Core.Path.{_≡_};
+ghost use Prim.Native.Nat.{_<_, _%_};
+ghost use lib.IntN.{pos, natAbs, _+ℤ_, _-ℤ_};
+ghost use Rattle.ring.specs.Ring.{onRing, inRange};
+
+// The place that lies d further on than a place, or back where d is below 0.
+pub fn moved(place: u64, d: i64, n: u64) -> u64
+    ensures { λ r. ⌜ r ≡ onRing (pos place +ℤ d) n ⌝ }
+{
+    if n == 0 {
+        return 0;
+    }
+    let from = rest(place, n);
+    let by = rest(magnitude(d), n);
+    if d < 0 {
+        back(from, by, n)
+    } else {
+        ahead(from, by, n)
+    }
+}
+
+// v lies strictly between -n and n.
+pub fn between(v: i64, n: u32) -> bool
+    ensures { λ r. ⌜ r ≡ inRange v n ⌝ }
+{
+    let end = n as i64;
+    (v < end) & (0 - end < v)
+}
+
+// How far d is from 0.
+pub fn magnitude(d: i64) -> u64
+    ensures { λ r. ⌜ r ≡ natAbs d ⌝ }
+{
+    if d < 0 { (-1 - d) as u64 + 1 } else { d as u64 }
+}
+
+fn ahead(from: u64, by: u64, n: u64) -> u64
+    requires { ⌜ (from < n) × (by < n) ⌝ }
+    ensures { λ r. ⌜ r ≡ onRing (pos from +ℤ pos by) n ⌝ }
+{
+    let room = n - from;
+    if by < room { from + by } else { by - room }
+}
+
+fn back(from: u64, by: u64, n: u64) -> u64
+    requires { ⌜ (from < n) × (by < n) ⌝ }
+    ensures { λ r. ⌜ r ≡ onRing (pos from -ℤ pos by) n ⌝ }
+{
+    if by <= from {
+        from - by
+    } else {
+        n - (by - from)
+    }
+}
+
+// What dividing by n leaves; most numbers are below n, and need no division.
+fn rest(a: u64, n: u64) -> u64
+    requires { ⌜ 0 < n ⌝ }
+    ensures { λ r. ⌜ (r ≡ a % n) × (r < n) ⌝ }
+{
+    if a < n { a } else { a % n }
+}

@@ -1,0 +1,170 @@
+-- The two walks of a batch, and each way out of it. Of the readings from the i-th on, the first walk keeps the refusal that is due and the
+-- second what is still to be written: at the end of the list nothing is left.
+-- Assumes nothing.
+use mathlib.Core.Path.{_≡_, refl, sym, _∙_}
+use mathlib.Core.Bool.{Bool, true, false, not, _&&_}
+use mathlib.Core.List.{List, [], _∷_, _++_, append-assoc, append-nil}
+use Prim.Native.Nat.{ℕ, suc, _+_, _≤_, _<_}
+use native.Mathlib.Numerals.{add-one}
+use native.Mathlib.Omega.{arith}
+use lib.IntN.{ℤ}
+use lib.ListN.{length, getD, take, drop, set, length-set, drop-of-length-le}
+use lib.Seq.{drop-cons, take-suc-set, take-all}
+use borrow.Author.Tests.{eq-eqb, ne-eqb, not-false}
+use mir.Syntax.{w64}
+use mir.Val.{Fits, SFits, toZ, ofZ}
+use Rattle.integer.proofs.Size.{reads}
+use Rattle.ring.specs.Ring.{inRange}
+use Rattle.encoder.specs.declared.effect.InForce.{InForce}
+use Rattle.encoder.specs.InForce.{Sound}
+use Rattle.encoder.proofs.RefusalLaws.{refused-is, before-first, before-none}
+use Rattle.encoder.proofs.PlateLaws.{and-split}
+use Rattle.travel.specs.declared.Travel.{Travel}
+use Rattle.travel.specs.declared.Moved.the-variants.{To, Refused}
+use Rattle.travel.specs.Travel.{inside, Inside, moveRefusal, movedTo, positionAt}
+use Rattle.travel.specs.Batch.{refusalIn, after, positionsIn, batchRefusal, batched, batchedList}
+use Rattle.travel.proofs.SensorLaws.{raw-lt, taken-lt}
+use Rattle.travel.proofs.TravelLaws.{inside-true, moved-kept}
+
+-- ---- the first walk
+module _ (f : InForce) (s : List ℕ) (i last r : ℕ) (due : refusalIn f last (drop i s) ≡ r) where
+  pub check-end : length s ≤ i → 0 ≡ r
+  unfolding refusalIn
+  check-end h = rw (drop-of-length-le s h) at due
+
+  module _ (h : i < length s) (n : ℕ) (n-is : n ≡ moveRefusal f last (getD s i 0)) where
+    pub check-stop : (n ≡ 0 → ⊥) → n ≡ r
+    unfolding refusalIn
+    check-stop z = rw (drop-cons s i 0 h, ← n-is, before-first n (refusalIn f (getD s i 0) (drop (suc i) s)) z) at due
+
+    pub check-more : n ≡ 0 → refusalIn f (getD s i 0) (drop (i + 1) s) ≡ r
+    unfolding refusalIn
+    check-more z = rw add-one (rw (drop-cons s i 0 h, ← n-is, z) at due)
+
+pub check-fits : (f : InForce) (last raw n : ℕ) → Sound f → n ≡ 0 → n ≡ moveRefusal f last raw → Fits w64 raw
+check-fits f last raw n s z e = record { fits = omega (arith, taken-lt f last raw n z e, s .capacity-most) }
+
+pub ruleset checks = (taken-lt, check-end, check-stop, check-more, check-fits)
+
+-- ---- the second walk
+pub record Going (f : InForce) (offset : ℤ) (k₀ : Travel) (s : List ℕ) (k : Travel) (i : ℕ) (out : List ℕ) : Type 0 where
+  pub long : length s ≡ length out
+  pub stands : Inside f k
+  pub none : refusalIn f (k .last .0) (drop i s) ≡ 0
+  pub ends : after f k (drop i s) ≡ after f k₀ s
+  pub writes : take i out ++ positionsIn f offset k (drop i s) ≡ positionsIn f offset k₀ s
+
+pub going-start : (f : InForce) (offset : ℤ) (k : Travel) (s out : List ℕ) → Inside f k → length s ≡ length out → refusalIn f (k .last .0) s ≡ 0
+    → Going f offset k s k 0 out
+going-start f offset k s out i long none = record { long = long; stands = i; none = none; ends = refl; writes = refl }
+
+module _ (f : InForce) (offset : ℤ) (k₀ : Travel) (s : List ℕ) (k : Travel) (i : ℕ) (out : List ℕ) (g : Going f offset k₀ s k i out) where
+  module _ (h : i < length s) where
+    parts : (moveRefusal f (k .last .0) (getD s i 0) ≡ 0) × (refusalIn f (getD s i 0) (drop (suc i) s) ≡ 0)
+    unfolding refusalIn
+    parts = before-none _ (refusalIn f (getD s i 0) (drop (suc i) s)) (rw (drop-cons s i 0 h) at (g .none))
+
+    pub going-lt : getD s i 0 < f .capacity .0
+    going-lt = raw-lt f (k .last .0) (getD s i 0) (parts .0)
+
+    module _ (n : Travel) (n-is : n ≡ movedTo f k (getD s i 0)) where
+      pub going-inside : Inside f n
+      going-inside = rw n-is (moved-kept f k (getD s i 0) (g .stands) going-lt)
+
+      pub going-more : (p : ℕ) → p ≡ positionAt f offset n → Going f offset k₀ s n (i + 1) (set out i p)
+      unfolding after positionsIn movedTo
+      going-more p p-is =
+          let j : i < length out = omega (arith, g .long) in
+          let ends-here : after f k (drop i s) ≡ after f n (drop (suc i) s) = rw (drop-cons s i 0 h, n-is) in
+          let writes-here : positionsIn f offset k (drop i s) ≡ p ∷ positionsIn f offset n (drop (suc i) s) = rw (drop-cons s i 0 h, p-is, n-is) in
+          record {
+            long = g .long ∙ simp length-set;
+            stands = going-inside;
+            none = rw (add-one, n-is) (parts .1);
+            ends = rw add-one (sym ends-here ∙ g .ends);
+            writes =
+                rw (add-one, take-suc-set out i p j)
+                (append-assoc (take i out) (p ∷ []) (positionsIn f offset n (drop (suc i) s)) ∙ (rw writes-here at (g .writes)));
+          }
+
+  module _ (h : length s ≤ i) where
+    pub going-travel : k ≡ after f k₀ s
+    unfolding after
+    going-travel = rw (drop-of-length-le s h) at (g .ends)
+
+    pub going-list : out ≡ positionsIn f offset k₀ s
+    unfolding positionsIn
+    going-list =
+        let j : length out ≤ i = omega (arith, g .long) in
+        sym (append-nil out) ∙ (rw (drop-of-length-le s h, take-all i out j) at (g .writes))
+
+-- the offset as the machine reads it back
+pub going-positions : (f : InForce) (offset : ℤ) (k₀ : Travel) (s : List ℕ) (k : Travel) (i : ℕ) (out : List ℕ) → SFits w64 offset
+    → Going f (toZ w64 (ofZ w64 offset)) k₀ s k i out → length s ≤ i → out ≡ positionsIn f offset k₀ s
+going-positions f offset k₀ s k i out fits g h = rw (reads fits) at (going-list f (toZ w64 (ofZ w64 offset)) k₀ s k i out g h)
+
+pub ruleset walks = (going-start, going-lt, going-inside, going-more, going-travel, going-positions)
+
+-- ---- the ways out: by the tests a of the limits and b of the offset, and the number n of the first refusal
+in-range-is : (offset : ℤ) (span : ℕ) (b : Bool) → SFits w64 offset → b ≡ inRange (toZ w64 (ofZ w64 offset)) span → inRange offset span ≡ b
+in-range-is offset span b fits e = sym (rw (reads fits) at e)
+
+module _ (f : InForce) (k : Travel) (offset : ℤ) (s out : List ℕ) (fits : SFits w64 offset) (a b : Bool) where
+  module _ (t : not (a && b) ≡ true) (a-is : a ≡ inside f k) (b-is : b ≡ inRange (toZ w64 (ofZ w64 offset)) (f .span .0)) where
+    pub batch-16 : Refused 16 ≡ batched f k offset s out
+    unfolding batched batchRefusal
+    batch-16 = rw (← a-is, in-range-is offset _ b fits b-is, t)
+
+    pub list-16 : out ≡ batchedList f k offset s out
+    unfolding batchedList batchRefusal
+    list-16 = rw (← a-is, in-range-is offset _ b fits b-is, t)
+
+  module _ (t : not (a && b) ≡ false) (a-is : a ≡ inside f k) (b-is : b ≡ inRange (toZ w64 (ofZ w64 offset)) (f .span .0)) where
+    module _ (l : length s ≡ length out → ⊥) where
+      pub batch-13 : Refused 13 ≡ batched f k offset s out
+      unfolding batched batchRefusal
+      batch-13 = rw (← a-is, in-range-is offset _ b fits b-is, t, ne-eqb _ _ l)
+
+      pub list-13 : out ≡ batchedList f k offset s out
+      unfolding batchedList batchRefusal
+      list-13 = rw (← a-is, in-range-is offset _ b fits b-is, t, ne-eqb _ _ l)
+
+    module _ (l : length s ≡ length out) (n : ℕ) (n-is : n ≡ refusalIn f (k .last .0) s) where
+      number-is : batchRefusal f k offset s out ≡ n
+      unfolding batchRefusal
+      number-is = rw (← a-is, in-range-is offset _ b fits b-is, t, eq-eqb _ _ l, ← n-is)
+
+      pub batch-no : (n ≡ 0 → ⊥) → Refused n ≡ batched f k offset s out
+      unfolding batched
+      batch-no z = rw number-is (sym (refused-is Refused (To (after f k s)) n z))
+
+      pub list-no : (n ≡ 0 → ⊥) → out ≡ batchedList f k offset s out
+      unfolding batchedList
+      list-no z = rw number-is (sym (refused-is (λ (m : ℕ). out) (positionsIn f offset k s) n z))
+
+      pub batch-to : (m : Travel) → n ≡ 0 → m ≡ after f k s → To m ≡ batched f k offset s out
+      unfolding batched
+      batch-to m z m-is = rw (number-is, z, m-is)
+
+      pub list-to : (x : List ℕ) → n ≡ 0 → x ≡ positionsIn f (toZ w64 (ofZ w64 offset)) k s → x ≡ batchedList f k offset s out
+      unfolding batchedList
+      list-to x z x-is = rw (number-is, z) (rw (reads fits) at x-is)
+
+-- and what the two walks are asked
+both-true : (a b : Bool) → not (a && b) ≡ false → a ≡ true
+both-true a b t = and-split a b (not-false (a && b) t) .0
+
+module _ (f : InForce) (k : Travel) (a b : Bool) (t : not (a && b) ≡ false) (a-is : a ≡ inside f k) where
+  pub batch-inside : Inside f k
+  batch-inside = inside-true f k (sym a-is ∙ both-true a b t)
+
+  pub batch-sound : Sound f
+  batch-sound = batch-inside .sound
+
+  pub batch-last : k .last .0 < f .capacity .0
+  batch-last = batch-inside .last
+
+pub none-due : (f : InForce) (last n : ℕ) (s : List ℕ) → n ≡ 0 → n ≡ refusalIn f last s → refusalIn f last s ≡ 0
+none-due f last n s z e = sym e ∙ z
+
+pub ruleset batches = (batch-16, list-16, batch-13, list-13, batch-no, list-no, batch-to, list-to, batch-inside, batch-sound, batch-last, none-due)

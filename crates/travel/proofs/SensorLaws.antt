@@ -1,0 +1,132 @@
+-- Raw numbers: each way out of orienting, of the difference, of the shorter way and of the refusals; and that a move is at most C.
+-- Assumes nothing.
+use mathlib.Core.Path.{_≡_, refl, sym, _∙_}
+use mathlib.Core.Bool.{Bool, true, false, cond}
+use Prim.Native.Nat.{ℕ, _+_, _-_, _*_, _%_, _^_, _≤_, _<_}
+use native.Mathlib.Omega.{arith}
+use native.Mathlib.Nat as N
+use lib.Dec.{ltb, leb}
+use lib.IntN.{pos, negℤ, natAbs, _-ℤ_}
+use borrow.Author.Tests.{lt-ltb, le-ltb, le-leb, lt-leb, leb-false, eq-eqb, ne-eqb}
+use mir.Syntax.{w64}
+use mir.Val.{SFits, toZ, ofZ}
+use mir.ValLaws.{toZ-pos}
+use Rattle.integer.proofs.Signed.{signed, neg-is, diff-is}
+use Rattle.integer.proofs.Size.{abs-is, abs-diff, reads, fits-abs}
+use Rattle.integer.proofs.Modulus.{modulo-lt, modulo-is}
+use Rattle.encoder.specs.declared.effect.InForce.{InForce}
+use Rattle.encoder.specs.InForce.{Sound}
+use Rattle.encoder.specs.Refusal.{when, _before_}
+use Rattle.travel.specs.Travel.{oriented, difference, shorter, moveOf, moveRefusal}
+
+-- ---- 1. the oriented number
+module _ (f : InForce) (raw : ℕ) where
+  pub oriented-on : f .reversed ≡ true → (f .capacity .0 - raw) % f .capacity .0 ≡ oriented f raw
+  unfolding oriented
+  oriented-on e = rw e
+
+  pub oriented-off : f .reversed ≡ false → raw ≡ oriented f raw
+  unfolding oriented
+  oriented-off e = rw e
+
+pub below-capacity : (f : InForce) (x : ℕ) → Sound f → x % f .capacity .0 < f .capacity .0
+below-capacity f x s = N.mod-lt x (s .capacity-least)
+
+-- ---- 3. the difference: the numbers' own, or one range short of it
+module _ (f : InForce) (last raw from to : ℕ) (from-is : from ≡ oriented f last) (from-lt : from < f .capacity .0)
+    (to-is : to ≡ oriented f raw) (to-lt : to < f .capacity .0) where
+  pub difference-ahead : from ≤ to → to - from ≡ difference f last raw
+  unfolding difference
+  difference-ahead h = rw (← from-is, ← to-is) (sym (modulo-is _ 0 0 (omega arith) (omega (arith, diff-is (pos to) (pos from)))))
+
+  pub difference-round : to < from → to + (f .capacity .0 - from) ≡ difference f last raw
+  unfolding difference
+  difference-round h = rw (← from-is, ← to-is) (sym (modulo-is _ 1 0 (omega arith) (omega (arith, diff-is (pos to) (pos from)))))
+
+pub difference-lt : (f : InForce) (last raw : ℕ) → Sound f → difference f last raw < f .capacity .0
+unfolding difference
+difference-lt f last raw s = modulo-lt (pos (oriented f raw) -ℤ pos (oriented f last)) (s .capacity-least)
+
+-- ---- the shorter way
+module _ (n c : ℕ) (lt : n < c) where
+  pub shorter-ahead : 2 * n < c → shorter n c ≡ pos n
+  unfolding shorter
+  shorter-ahead h = rw (lt-ltb n (c - n) (omega arith))
+
+  pub shorter-back : c ≤ 2 * n → shorter n c ≡ pos n -ℤ pos c
+  unfolding shorter
+  shorter-back h = rw (le-ltb n (c - n) (omega arith)) (omega (signed, neg-is (pos (c - n)), diff-is (pos n) (pos c)))
+
+  shorter-most : natAbs (shorter n c) ≤ c
+  unfolding shorter
+  shorter-most = go (ltb n (c - n))
+    where
+      go : (b : Bool) → natAbs (cond b (pos n) (negℤ (pos (c - n)))) ≤ c
+      go true = omega arith
+      go false = let z = negℤ (pos (c - n)) in omega (arith, neg-is (pos (c - n)), abs-is z)
+
+  module _ (most : c ≤ 2 ^ 31) where
+    pub back-fits : SFits w64 (toZ w64 n -ℤ toZ w64 c)
+    back-fits =
+        rw (toZ-pos w64 n (omega arith), toZ-pos w64 c (omega arith)) (fits-abs (pos n -ℤ pos c) (omega (arith, abs-diff (pos n) (pos c))))
+
+    read-back : toZ w64 (ofZ w64 (toZ w64 n -ℤ toZ w64 c)) ≡ pos n -ℤ pos c
+    read-back = reads back-fits ∙ rw (toZ-pos w64 n (omega arith), toZ-pos w64 c (omega arith))
+
+module _ (f : InForce) (last raw : ℕ) (s : Sound f) where
+  pub move-most : natAbs (moveOf f last raw) ≤ f .capacity .0
+  unfolding moveOf
+  move-most = shorter-most (difference f last raw) _ (difference-lt f last raw s)
+
+  pub move-fits : SFits w64 (moveOf f last raw)
+  move-fits = fits-abs _ (omega (arith, move-most, s .capacity-most))
+
+  module _ (n : ℕ) (n-is : n ≡ difference f last raw) (lt : n < f .capacity .0) where
+    pub move-ahead : 2 * n < f .capacity .0 → toZ w64 n ≡ moveOf f last raw
+    unfolding moveOf
+    move-ahead h = rw (← n-is, shorter-ahead n _ lt h) (toZ-pos w64 n (omega (arith, s .capacity-most)))
+
+    pub move-back : f .capacity .0 ≤ 2 * n → toZ w64 (ofZ w64 (toZ w64 n -ℤ toZ w64 (f .capacity .0))) ≡ moveOf f last raw
+    unfolding moveOf
+    move-back h = rw (← n-is, shorter-back n _ lt h) (read-back n (f .capacity .0) lt (s .capacity-most))
+
+-- ---- the refusals
+module _ (f : InForce) (last raw : ℕ) where
+  pub raw-9 : f .capacity .0 ≤ raw → 9 ≡ moveRefusal f last raw
+  unfolding moveRefusal
+  raw-9 h = rw (le-leb _ _ h)
+
+  module _ (n : ℕ) (lt : raw < f .capacity .0) where
+    pub raw-10 : 2 * n ≡ f .capacity .0 → n ≡ difference f last raw → 10 ≡ moveRefusal f last raw
+    unfolding moveRefusal
+    raw-10 h e = rw (lt-leb _ _ lt, ← e, eq-eqb _ _ h)
+
+    pub raw-none : (2 * n ≡ f .capacity .0 → ⊥) → n ≡ difference f last raw → 0 ≡ moveRefusal f last raw
+    unfolding moveRefusal
+    raw-none h e = rw (lt-leb _ _ lt, ← e, ne-eqb _ _ h)
+
+-- a reading that is taken is one of the sensor's
+raw-below : (c raw m : ℕ) (b : Bool) → leb c raw ≡ b → (when b 9 before m) ≡ 0 → raw < c
+raw-below c raw m true e h = absurd (omega arith)
+raw-below c raw m false e h = leb-false c raw e
+
+pub raw-lt : (f : InForce) (last raw : ℕ) → moveRefusal f last raw ≡ 0 → raw < f .capacity .0
+unfolding moveRefusal
+raw-lt f last raw h = raw-below (f .capacity .0) raw _ (leb (f .capacity .0) raw) refl h
+
+pub taken-lt : (f : InForce) (last raw n : ℕ) → n ≡ 0 → n ≡ moveRefusal f last raw → raw < f .capacity .0
+taken-lt f last raw n z e = raw-lt f last raw (sym e ∙ z)
+
+pub ruleset sensors = (
+  oriented-on,
+  oriented-off,
+  below-capacity,
+  difference-ahead,
+  difference-round,
+  back-fits,
+  move-ahead,
+  move-back,
+  raw-9,
+  raw-10,
+  raw-none,
+)

@@ -1,0 +1,16 @@
+-- By the laws of PlaceLaws.
+-- Assumes nothing.
+use borrow.Author.Needs.{needs}
+use Rattle.travel.proofs.PlaceLaws.{places}
+use Rattle.travel.proofs.Travel.advanced.Statement.{statement}
+use Rattle.travel.proofs.Travel.advanced.Tie as tie
+
+pub advanced-spec : {M : Type 1} → statement M
+advanced-spec =
+    tie.close
+    (tie.spec
+    (λ c κs. search needs)
+    (λ c. search needs)
+    (λ c. search (needs, places))
+    (λ c κs. search needs)
+    (λ c. search (needs, places)))

@@ -1,0 +1,20 @@
+-- By the laws of BatchLaws, one for each way out.
+-- Assumes nothing.
+use borrow.Author.Needs.{needs}
+use Rattle.travel.proofs.BatchLaws.{batches}
+use Rattle.travel.proofs.Travel.batch.Statement.{statement}
+use Rattle.travel.proofs.Travel.batch.Tie as tie
+
+pub batch-spec : {M : Type 1} → statement M
+batch-spec =
+    tie.close
+    (tie.spec
+    (λ c κs. search needs)
+    (λ c κs. search needs)
+    (λ c. search (needs, batches))
+    (λ c. search (needs, batches))
+    (λ c κs. search (needs, batches))
+    (λ c. search (needs, batches))
+    (λ c κs. search (needs, batches))
+    (λ c. search needs)
+    (λ c. search (needs, batches)))

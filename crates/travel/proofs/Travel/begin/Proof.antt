@@ -1,0 +1,16 @@
+-- By the laws of TravelLaws, one for each way out.
+-- Assumes nothing.
+use borrow.Author.Needs.{needs}
+use Rattle.travel.proofs.TravelLaws.{starts}
+use Rattle.travel.proofs.Travel.begin.Statement.{statement}
+use Rattle.travel.proofs.Travel.begin.Tie as tie
+
+pub begin-spec : {M : Type 1} → statement M
+begin-spec =
+    tie.close
+    (tie.spec
+    (λ c κs. search needs)
+    (λ c. search (needs, starts))
+    (λ c. search (needs, starts))
+    (λ c κs. search (needs, starts))
+    (λ c. search (needs, starts)))

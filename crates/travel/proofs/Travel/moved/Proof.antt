@@ -1,0 +1,17 @@
+-- By the laws of TravelLaws, one for each way out.
+-- Assumes nothing.
+use borrow.Author.Needs.{needs}
+use Rattle.travel.proofs.TravelLaws.{readings}
+use Rattle.travel.proofs.Travel.moved.Statement.{statement}
+use Rattle.travel.proofs.Travel.moved.Tie as tie
+
+pub moved-spec : {M : Type 1} → statement M
+moved-spec =
+    tie.close
+    (tie.spec
+    (λ c κs. search needs)
+    (λ c. search (needs, readings))
+    (λ c κs. search (needs, readings))
+    (λ c. search (needs, readings))
+    (λ c κs. search (needs, readings))
+    (λ c. search (needs, readings)))

@@ -1,0 +1,17 @@
+-- By the laws of PlaceLaws.
+-- Assumes nothing.
+use borrow.Author.Needs.{needs}
+use Rattle.travel.proofs.PlaceLaws.{places}
+use Rattle.travel.proofs.Travel.position.Statement.{statement}
+use Rattle.travel.proofs.Travel.position.Tie as tie
+
+pub position-spec : {M : Type 1} → statement M
+position-spec =
+    tie.close
+    (tie.spec
+    (λ c κs. search needs)
+    (λ c. search needs)
+    (λ c. search needs)
+    (λ c κs. search needs)
+    (λ c. search (needs, places))
+    (λ c. search (needs, places)))

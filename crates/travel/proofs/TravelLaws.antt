@@ -1,0 +1,181 @@
+-- The limits as a test and as facts, and each way out of the public functions but the batch: a law a way.
+-- Assumes nothing.
+use mathlib.Core.Path.{_≡_, refl, sym, _∙_}
+use mathlib.Core.Bool.{Bool, true, false, not, _&&_}
+use Prim.Native.Nat.{ℕ, zero, suc, _≤_, _<_}
+use native.Mathlib.Omega.{arith}
+use native.Mathlib.Nat as N
+use lib.Dec.{ltb}
+use lib.IntN.{ℤ}
+use borrow.Author.Tests.{not-true, not-false, lt-ltb, ltb-true, le-leb, lt-leb}
+use mir.Syntax.{w64}
+use mir.Val.{toZ, ofZ}
+use Rattle.integer.proofs.Size.{reads}
+use Rattle.integer.proofs.Modulus.{modulo-lt}
+use Rattle.encoder.specs.declared.quantity.Units.{Units}
+use Rattle.encoder.specs.declared.effect.InForce.{InForce}
+use Rattle.encoder.specs.Refusal.{answer}
+use Rattle.encoder.specs.InForce.{rulesFit, Sound}
+use Rattle.encoder.proofs.RefusalLaws.{refused-is}
+use Rattle.encoder.proofs.PlateLaws.{and-split}
+use Rattle.encoder.proofs.SoundLaws.{sound-of, fits-of}
+use Rattle.travel.specs.declared.Travel.{Travel}
+use Rattle.travel.specs.declared.Moved.{Moved}
+use Rattle.travel.specs.declared.Moved.the-variants.{To, Refused as NotMoved}
+use Rattle.travel.specs.declared.Approach.{Approach}
+use Rattle.travel.specs.declared.Approach.the-variants.{By, Refused as NotApproached}
+use Rattle.travel.specs.declared.Scaled.the-variants.{At, Refused as NotScaled}
+use Rattle.travel.specs.Travel.{ring, inside, Inside, nowhere, oriented, started, moveOf, moveRefusal, movedTo, unshifted, beginRefusal, begun, travelRefusal, approached, moved, scaled}
+use Rattle.travel.proofs.SensorLaws.{move-fits, taken-lt}
+use Rattle.travel.proofs.PlaceLaws.{ring-least}
+
+-- ---- the limits
+pub inside-true : (f : InForce) (k : Travel) → inside f k ≡ true → Inside f k
+unfolding inside
+inside-true f k e =
+    let a = and-split (rulesFit f) _ e in
+    let b = and-split (ltb (k .place .0) (ring f)) (ltb (k .last .0) (f .capacity .0)) (a .1) in
+    record { sound = sound-of f (a .0); place = ltb-true _ _ (b .0); last = ltb-true _ _ (b .1) }
+
+pub inside-is : (f : InForce) (k : Travel) → Inside f k → inside f k ≡ true
+unfolding inside
+inside-is f k i = rw (fits-of f (i .sound), lt-ltb _ _ (i .place), lt-ltb _ _ (i .last))
+
+-- before a first reading nothing is within them
+pub nowhere-out : (f : InForce) (b : Bool) → inside f nowhere ≡ b → b ≡ false
+nowhere-out f true e = let i = inside-true f nowhere e in absurd (omega (arith, i .last, i .sound .capacity-most))
+nowhere-out f false e = refl
+
+-- a start and a reading that is taken are within them
+pub started-kept : (f : InForce) (raw : ℕ) → Sound f → raw < f .capacity .0 → Inside f (started f raw)
+unfolding started
+started-kept f raw s h = record { sound = s; place = N.mod-lt (oriented f raw) (ring-least f s); last = h }
+
+pub moved-kept : (f : InForce) (k : Travel) (raw : ℕ) → Inside f k → raw < f .capacity .0 → Inside f (movedTo f k raw)
+unfolding movedTo
+moved-kept f k raw i h =
+    record { sound = i .sound; place = modulo-lt _ (ring-least f (i .sound)); last = h }
+
+module _ (f : InForce) (b : Bool) where
+  pub sound-by : not b ≡ false → b ≡ rulesFit f → Sound f
+  sound-by t e = sound-of f (sym e ∙ not-false b t)
+
+  pub inside-no : (k : Travel) → not b ≡ true → b ≡ rulesFit f → false ≡ inside f k
+  unfolding inside
+  inside-no k t e = rw (← e, not-true b t)
+
+  pub inside-on : (k : Travel) (r : Bool) → not b ≡ false → b ≡ rulesFit f
+      → r ≡ (ltb (k .place .0) (ring f) && ltb (k .last .0) (f .capacity .0)) → r ≡ inside f k
+  unfolding inside
+  inside-on k r t e h = rw (← e, not-false b t) h
+
+pub ruleset limits = (sound-by, inside-no, inside-on)
+
+-- ---- the start
+module _ (f : InForce) (raw : ℕ) (b : Bool) where
+  pub begun-16 : not b ≡ true → b ≡ rulesFit f → NotMoved 16 ≡ begun f raw
+  unfolding begun beginRefusal
+  begun-16 t e = rw (← e, not-true b t)
+
+  pub begun-9 : f .capacity .0 ≤ raw → not b ≡ false → b ≡ rulesFit f → NotMoved 9 ≡ begun f raw
+  unfolding begun beginRefusal
+  begun-9 h t e = rw (← e, not-false b t, le-leb _ _ h)
+
+  pub begun-to : (k : Travel) → k ≡ started f raw → raw < f .capacity .0 → not b ≡ false → b ≡ rulesFit f → To k ≡ begun f raw
+  unfolding begun beginRefusal
+  begun-to k k-is h t e = rw (← e, not-false b t, lt-leb _ _ h, k-is)
+
+pub ruleset starts = (sound-by, begun-16, begun-9, begun-to)
+
+-- ---- a reading, by the number n of its refusal
+module _ (f : InForce) (k : Travel) (b : Bool) where
+  pub inside-by : not b ≡ false → b ≡ inside f k → Inside f k
+  inside-by t e = inside-true f k (sym e ∙ not-false b t)
+
+  pub inside-sound : not b ≡ false → b ≡ inside f k → Sound f
+  inside-sound t e = inside-by t e .sound
+
+  pub inside-last : not b ≡ false → b ≡ inside f k → k .last .0 < f .capacity .0
+  inside-last t e = inside-by t e .last
+
+  pub scaled-16 : not b ≡ true → b ≡ inside f k → NotScaled 16 ≡ scaled f k
+  unfolding scaled
+  scaled-16 t e = rw (← e, not-true b t)
+
+  pub scaled-at : (u : Units) → u .0 ≡ unshifted f k → not b ≡ false → b ≡ inside f k → At u ≡ scaled f k
+  unfolding scaled
+  scaled-at u u-is t e = rw (← e, not-false b t, ← u-is)
+
+  module _ (raw : ℕ) where
+    pub approached-16 : not b ≡ true → b ≡ inside f k → NotApproached 16 ≡ approached f k raw
+    unfolding approached travelRefusal
+    approached-16 t e = rw (← e, not-true b t)
+
+    pub moved-16 : not b ≡ true → b ≡ inside f k → NotMoved 16 ≡ moved f k raw
+    unfolding moved travelRefusal
+    moved-16 t e = rw (← e, not-true b t)
+
+    module _ (n : ℕ) where
+      pub approached-no : (n ≡ 0 → ⊥) → n ≡ moveRefusal f (k .last .0) raw → not b ≡ false → b ≡ inside f k → NotApproached n ≡ approached f k raw
+      unfolding approached travelRefusal
+      approached-no z n-is t e = rw (← e, not-false b t, ← n-is, refused-is NotApproached (By (moveOf f (k .last .0) raw)) n z)
+
+      pub moved-no : (n ≡ 0 → ⊥) → n ≡ moveRefusal f (k .last .0) raw → not b ≡ false → b ≡ inside f k → NotMoved n ≡ moved f k raw
+      unfolding moved travelRefusal
+      moved-no z n-is t e = rw (← e, not-false b t, ← n-is, refused-is NotMoved (To (movedTo f k raw)) n z)
+
+      pub approached-by : (d : ℤ) → d ≡ moveOf f (k .last .0) raw → n ≡ 0 → n ≡ moveRefusal f (k .last .0) raw → not b ≡ false → b ≡ inside f k
+          → By (toZ w64 (ofZ w64 d)) ≡ approached f k raw
+      unfolding approached travelRefusal
+      approached-by d d-is z n-is t e =
+          rw (← e, not-false b t, ← n-is, z, d-is, reads (move-fits f (k .last .0) raw (inside-by t e .sound)))
+
+      pub moved-to : (m : Travel) → m ≡ movedTo f k raw → n ≡ 0 → n ≡ moveRefusal f (k .last .0) raw → not b ≡ false → b ≡ inside f k
+          → To m ≡ moved f k raw
+      unfolding moved travelRefusal
+      moved-to m m-is z n-is t e = rw (← e, not-false b t, ← n-is, z, m-is)
+
+pub ruleset readings = (
+  inside-sound,
+  inside-last,
+  inside-by,
+  taken-lt,
+  scaled-16,
+  scaled-at,
+  approached-16,
+  approached-no,
+  approached-by,
+  moved-16,
+  moved-no,
+  moved-to,
+)
+
+-- ---- the answers taken apart
+pub to-taken : (e : Moved) (k m : Travel) (n : ℕ) → e ≡ To m → e ≡ answer NotMoved (To k) n → (n ≡ 0) × (m ≡ k)
+to-taken e k m zero t e-is = let h : To m ≡ To k = sym t ∙ e-is in (refl, cc)
+to-taken e k m (suc n) t e-is = let h : To m ≡ NotMoved (suc n) = sym t ∙ e-is in let z : _≡_ {A = ℕ} 0 1 = cc in absurd (omega arith)
+
+pub to-refused : (e : Moved) (k : Travel) (n j : ℕ) → e ≡ NotMoved j → e ≡ answer NotMoved (To k) n → (n ≡ j) × (j ≡ 0 → ⊥)
+to-refused e k zero j t e-is = let h : NotMoved j ≡ To k = sym t ∙ e-is in let z : _≡_ {A = ℕ} 0 1 = cc in absurd (omega arith)
+to-refused e k (suc n) j t e-is = let h : NotMoved j ≡ NotMoved (suc n) = sym t ∙ e-is in let z : suc n ≡ j = cc in (z, λ w. omega arith)
+
+pub by-taken : (e : Approach) (z d : ℤ) (n : ℕ) → e ≡ By d → e ≡ answer NotApproached (By z) n → (n ≡ 0) × (d ≡ z)
+by-taken e z d zero t e-is = let h : By d ≡ By z = sym t ∙ e-is in (refl, cc)
+by-taken e z d (suc n) t e-is = let h : By d ≡ NotApproached (suc n) = sym t ∙ e-is in let w : _≡_ {A = ℕ} 0 1 = cc in absurd (omega arith)
+
+pub by-refused : (e : Approach) (z : ℤ) (n j : ℕ) → e ≡ NotApproached j → e ≡ answer NotApproached (By z) n → (n ≡ j) × (j ≡ 0 → ⊥)
+by-refused e z zero j t e-is = let h : NotApproached j ≡ By z = sym t ∙ e-is in let w : _≡_ {A = ℕ} 0 1 = cc in absurd (omega arith)
+by-refused e z (suc n) j t e-is = let h : NotApproached j ≡ NotApproached (suc n) = sym t ∙ e-is in let w : suc n ≡ j = cc in (w, λ v. omega arith)
+
+module _ (f : InForce) (k : Travel) (i : Inside f k) where
+  pub read-refusal : (raw : ℕ) → travelRefusal f k raw ≡ moveRefusal f (k .last .0) raw
+  unfolding travelRefusal
+  read-refusal raw = rw (inside-is f k i)
+
+  pub scaled-is : scaled f k ≡ At (record { 0 = unshifted f k })
+  unfolding scaled
+  scaled-is = rw (inside-is f k i)
+
+pub begun-is : (f : InForce) (raw : ℕ) → Sound f → raw < f .capacity .0 → begun f raw ≡ To (started f raw)
+unfolding begun beginRefusal
+begun-is f raw s h = rw (fits-of f s, lt-leb _ _ h)

@@ -1,0 +1,17 @@
+-- By the laws of SensorLaws, one for each way out.
+-- Assumes nothing.
+use borrow.Author.Needs.{needs}
+use Rattle.travel.proofs.SensorLaws.{sensors}
+use Rattle.travel.proofs.raw.difference.Statement.{statement}
+use Rattle.travel.proofs.raw.difference.Tie as tie
+
+pub difference-spec : {M : Type 1} → statement M
+difference-spec =
+    tie.close
+    (tie.spec
+    (λ c κs. search needs)
+    (λ c κs. search needs)
+    (λ c. search (needs, sensors))
+    (λ c. search needs)
+    (λ c. search needs)
+    (λ c. search (needs, sensors)))

@@ -1,0 +1,19 @@
+-- By the laws of SensorLaws, one for each way out.
+-- Assumes nothing.
+use borrow.Author.Needs.{needs}
+use Rattle.travel.proofs.SensorLaws.{sensors}
+use Rattle.travel.proofs.raw.move_to.Statement.{statement}
+use Rattle.travel.proofs.raw.move_to.Tie as tie
+
+pub move-to-spec : {M : Type 1} → statement M
+move-to-spec =
+    tie.close
+    (tie.spec
+    (λ c κs. search needs)
+    (λ c. search needs)
+    (λ c. search needs)
+    (λ c. search (needs, sensors))
+    (λ c. search needs)
+    (λ c. search needs)
+    (λ c. search (needs, sensors))
+    (λ c. search (needs, sensors)))

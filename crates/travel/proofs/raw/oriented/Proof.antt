@@ -1,0 +1,15 @@
+-- By the laws of SensorLaws, one for each way out.
+-- Assumes nothing.
+use borrow.Author.Needs.{needs}
+use Rattle.travel.proofs.SensorLaws.{sensors}
+use Rattle.travel.proofs.raw.oriented.Statement.{statement}
+use Rattle.travel.proofs.raw.oriented.Tie as tie
+
+pub oriented-spec : {M : Type 1} → statement M
+oriented-spec =
+    tie.close
+    (tie.spec
+    (λ c. search needs)
+    (λ c. search needs)
+    (λ c. search (needs, sensors))
+    (λ c. search (needs, sensors)))

@@ -1,0 +1,90 @@
+-- Where the shaft stands, its place and its last reading, under what is in force (document 01, "The axis", rules 1 to 5; rows 9, 10 and 16).
+-- Assumes nothing.
+use mathlib.Core.Bool.{Bool, cond, not, _&&_}
+use Prim.Native.Nat.{ℕ, _-_, _*_, _/_, _%_, _^_, _<_}
+use lib.Dec.{eqb, ltb, leb}
+use lib.IntN.{ℤ, pos, negℤ, _+ℤ_, _-ℤ_}
+use Rattle.integer.specs.Modulus.{_modulo_}
+use Rattle.encoder.specs.declared.effect.InForce.{InForce}
+use Rattle.encoder.specs.Refusal.{wrongTurn, halfRange, noAxis, when, _before_, answer}
+use Rattle.encoder.specs.InForce.{rulesFit, Sound}
+use Rattle.travel.specs.declared.Travel.{Travel}
+use Rattle.travel.specs.declared.Moved.{Moved}
+use Rattle.travel.specs.declared.Moved.the-variants.{To, Refused as NotMoved}
+use Rattle.travel.specs.declared.Approach.{Approach}
+use Rattle.travel.specs.declared.Approach.the-variants.{By, Refused as NotApproached}
+use Rattle.travel.specs.declared.Scaled.{Scaled}
+use Rattle.travel.specs.declared.Scaled.the-variants.{At, Refused as NotScaled}
+
+-- R × L: so many steps are a whole number of turns, and as positions a whole number of total ranges
+abbrev pub ring : InForce → ℕ
+ring f = f .steps .0 * f .span .0
+
+-- the limits: what is in force is within its own, the place is below R × L and the last reading below C
+unfoldable pub inside : InForce → Travel → Bool
+inside f k = rulesFit f && (ltb (k .place .0) (ring f) && ltb (k .last .0) (f .capacity .0))
+
+-- the same, as facts
+pub record Inside (f : InForce) (k : Travel) : Type 0 where
+  pub sound : Sound f
+  pub place : k .place .0 < ring f
+  pub last : k .last .0 < f .capacity .0
+
+-- before a first reading: the last one is no number of any sensor
+abbrev pub nowhere : Travel
+nowhere = record { place = record { 0 = 0 }; last = record { 0 = 2 ^ 64 - 1 } }
+
+-- 1. the oriented number is the raw number, or with the code sequence in force (C − raw) modulo C
+unfoldable pub oriented : InForce → ℕ → ℕ
+oriented f raw = cond (f .reversed) ((f .capacity .0 - raw) % f .capacity .0) raw
+
+-- 2, 4. the place is at first the oriented number, and is kept modulo R × L from the start on
+unfoldable pub started : InForce → ℕ → Travel
+started f raw = record { place = record { 0 = oriented f raw % ring f }; last = record { 0 = raw } }
+
+-- 3. the difference of oriented numbers modulo C
+unfoldable pub difference : InForce → ℕ → ℕ → ℕ
+difference f last raw = (pos (oriented f raw) -ℤ pos (oriented f last)) modulo f .capacity .0
+
+-- the shorter way on a ring of c: n ahead, or c − n back
+unfoldable pub shorter : ℕ → ℕ → ℤ
+shorter n c = cond (ltb n (c - n)) (pos n) (negℤ (pos (c - n)))
+
+-- a new reading moves the place by d, the difference taken the shorter way
+unfoldable pub moveOf : InForce → ℕ → ℕ → ℤ
+moveOf f last raw = shorter (difference f last raw) (f .capacity .0)
+
+-- 9: raw number ≥ C. 10: difference exactly C/2
+unfoldable pub moveRefusal : InForce → ℕ → ℕ → ℕ
+moveRefusal f last raw = when (leb (f .capacity .0) raw) wrongTurn before when (eqb (2 * difference f last raw) (f .capacity .0)) halfRange
+
+-- 3, 4. where the reading then stands
+unfoldable pub movedTo : InForce → Travel → ℕ → Travel
+movedTo f k raw = record { place = record { 0 = (pos (k .place .0) +ℤ moveOf f (k .last .0) raw) modulo ring f }; last = record { 0 = raw } }
+
+-- 4. the unshifted position is place × M / R rounded down, modulo L
+unfoldable pub unshifted : InForce → Travel → ℕ
+unshifted f k = k .place .0 * f .scale .0 / f .steps .0 % f .span .0
+
+-- 5. the position is unshifted + offset, modulo L
+unfoldable pub positionAt : InForce → ℤ → Travel → ℕ
+positionAt f offset k = (pos (unshifted f k) +ℤ offset) modulo f .span .0
+
+-- ---- the answers, by the number of the refusal: 16, 9, 10
+unfoldable pub beginRefusal : InForce → ℕ → ℕ
+beginRefusal f raw = when (not (rulesFit f)) noAxis before when (leb (f .capacity .0) raw) wrongTurn
+
+unfoldable pub begun : InForce → ℕ → Moved
+begun f raw = answer NotMoved (To (started f raw)) (beginRefusal f raw)
+
+unfoldable pub travelRefusal : InForce → Travel → ℕ → ℕ
+travelRefusal f k raw = when (not (inside f k)) noAxis before moveRefusal f (k .last .0) raw
+
+unfoldable pub approached : InForce → Travel → ℕ → Approach
+approached f k raw = answer NotApproached (By (moveOf f (k .last .0) raw)) (travelRefusal f k raw)
+
+unfoldable pub moved : InForce → Travel → ℕ → Moved
+moved f k raw = answer NotMoved (To (movedTo f k raw)) (travelRefusal f k raw)
+
+unfoldable pub scaled : InForce → Travel → Scaled
+scaled f k = answer NotScaled (At (record { 0 = unshifted f k })) (when (not (inside f k)) noAxis)

@@ -1,0 +1,145 @@
+// Where the shaft stands under what is in force, and how readings move it (document 01, "The axis", rules 1 to 5 and 7). This crate alone
+// knows how the place is kept, and alone turns steps into units of position.
+mod place;
+mod raw;
+
+ghost use mathlib.Core.Path.{_≡_};
+ghost use Rattle.encoder.specs.InForce.{rulesFit};
+ghost use Rattle.travel.specs.Travel.{inside, begun, approached, moved, scaled};
+ghost use Rattle.travel.specs.Batch.{batched, batchedList};
+use encoder::effect::InForce;
+use encoder::quantity::Steps;
+use encoder::quantity::Units;
+use encoder::refusal;
+use raw::first_refusal;
+use raw::move_refusal;
+use raw::move_to;
+use ring::between;
+
+pub struct Travel {
+    // the place of document 01, below R x L
+    pub place: Steps,
+    // the raw number of the last reading
+    pub last: Steps,
+}
+
+pub enum Moved {
+    To(Travel),
+    Refused(u8),
+}
+
+pub enum Approach {
+    By(i64),
+    Refused(u8),
+}
+
+pub enum Scaled {
+    At(Units),
+    Refused(u8),
+}
+
+impl Travel {
+    // Before a first reading: outside its limits, whatever is in force.
+    pub const NOWHERE: Travel = Travel {
+        place: Steps(0),
+        last: Steps(0xffff_ffff_ffff_ffff),
+    };
+
+    // At a first reading.
+    pub fn begin(rules: InForce, raw: u32) -> Moved
+        ensures { λ r. ⌜ r ≡ begun rules raw ⌝ }
+    {
+        if !sound(rules) {
+            return Moved::Refused(refusal::NO_AXIS);
+        }
+        if rules.capacity.0 <= raw as u64 {
+            return Moved::Refused(refusal::TURN);
+        }
+        Moved::To(Travel::start(rules, raw))
+    }
+
+    // Within its limits.
+    pub fn inside(self, rules: InForce) -> bool
+        ensures { λ r. ⌜ r ≡ inside rules self ⌝ }
+    {
+        if !sound(rules) {
+            return false;
+        }
+        self.on_ring(rules)
+    }
+
+    // How far a new reading lies from the last, the shorter way.
+    pub fn approach(self, rules: InForce, raw: u32) -> Approach
+        ensures { λ r. ⌜ r ≡ approached rules self raw ⌝ }
+    {
+        if !self.inside(rules) {
+            return Approach::Refused(refusal::NO_AXIS);
+        }
+        let n = move_refusal(rules, self.last, raw);
+        if n != 0 {
+            return Approach::Refused(n);
+        }
+        Approach::By(move_to(rules, self.last, raw))
+    }
+
+    // A new reading.
+    pub fn moved(self, rules: InForce, raw: u32) -> Moved
+        ensures { λ r. ⌜ r ≡ moved rules self raw ⌝ }
+    {
+        if !self.inside(rules) {
+            return Moved::Refused(refusal::NO_AXIS);
+        }
+        let n = move_refusal(rules, self.last, raw);
+        if n != 0 {
+            return Moved::Refused(n);
+        }
+        Moved::To(self.advanced(rules, raw))
+    }
+
+    // The unshifted position.
+    pub fn scaled(self, rules: InForce) -> Scaled
+        ensures { λ r. ⌜ r ≡ scaled rules self ⌝ }
+    {
+        if !self.inside(rules) {
+            return Scaled::Refused(refusal::NO_AXIS);
+        }
+        Scaled::At(self.units(rules))
+    }
+
+    // New readings one after the other, with the position at each: all of them, or none.
+    pub fn batch(self, rules: InForce, offset: i64, raws: &[u32], positions: &mut [u32]) -> Moved
+        ensures { λ r. ⌜ (r ≡ batched rules self offset (now (raws .entry)) (now (positions .entry)))
+            × (now (positions .exit) ≡ batchedList rules self offset (now (raws .entry)) (now (positions .entry))) ⌝ }
+    {
+        let span = rules.span.0;
+        if !(self.inside(rules) & between(offset, span)) {
+            return Moved::Refused(refusal::NO_AXIS);
+        }
+        if raws.len() != positions.len() {
+            return Moved::Refused(refusal::BUFFER);
+        }
+        let n = first_refusal(rules, self.last, raws);
+        if n != 0 {
+            return Moved::Refused(n);
+        }
+        Moved::To(self.follow(rules, offset, raws, positions))
+    }
+}
+
+// What is in force is within its limits.
+fn sound(rules: InForce) -> bool
+    ensures { λ r. ⌜ r ≡ rulesFit rules ⌝ }
+{
+    let steps = rules.steps.0;
+    let capacity = rules.capacity.0;
+    let scale = rules.scale.0;
+    let span = rules.span.0;
+    (1 <= steps)
+        & (steps <= 65536)
+        & (1 <= capacity)
+        & (capacity <= 0x8000_0000)
+        & (1 <= scale)
+        & (scale <= 65536)
+        & (1 <= span)
+        & (span <= 0x8000_0000)
+}

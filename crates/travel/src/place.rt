@@ -1,0 +1,87 @@
+// The place, kept modulo R x L, and the position that it stands for (document 01, "The axis", rules 2 to 5 and 7).
+ghost use mathlib.Core.Path.{_≡_};
+ghost use mathlib.Core.Bool.{_&&_};
+ghost use Prim.Native.Nat.{_<_, _*_};
+ghost use lib.Dec.{ltb};
+ghost use lib.ListN.{length};
+ghost use Rattle.encoder.specs.InForce.{Sound};
+ghost use Rattle.travel.specs.Travel.{Inside, ring, started, movedTo, unshifted, positionAt};
+ghost use Rattle.travel.specs.Batch.{refusalIn, after, positionsIn};
+use crate::Travel;
+use crate::raw::move_to;
+use crate::raw::oriented;
+use encoder::effect::InForce;
+use encoder::quantity::Steps;
+use encoder::quantity::Units;
+
+impl Travel {
+    pub(crate) fn start(rules: InForce, raw: u32) -> Travel
+        requires { ⌜ Sound rules × (raw < rules .capacity .0) ⌝ }
+        ensures { λ r. ⌜ r ≡ started rules raw ⌝ }
+    {
+        let last = Steps(raw as u64);
+        let first = oriented(rules, last);
+        Travel {
+            place: Steps(first.0 % (rules.steps.0 * rules.span.0 as u64)),
+            last,
+        }
+    }
+
+    // Place and last reading are within their limits.
+    pub(crate) fn on_ring(self, rules: InForce) -> bool
+        requires { ⌜ Sound rules ⌝ }
+        ensures { λ r. ⌜ r ≡ (ltb (self .place .0) (ring rules) && ltb (self .last .0) (rules .capacity .0)) ⌝ }
+    {
+        (self.place.0 < rules.steps.0 * rules.span.0 as u64) & (self.last.0 < rules.capacity.0)
+    }
+
+    // At a new reading that is taken.
+    pub(crate) fn advanced(self, rules: InForce, raw: u32) -> Travel
+        requires { ⌜ Inside rules self × (raw < rules .capacity .0) ⌝ }
+        ensures { λ r. ⌜ r ≡ movedTo rules self raw ⌝ }
+    {
+        let last = Steps(raw as u64);
+        let d = move_to(rules, self.last, raw);
+        let place = Steps(ring::moved(self.place.0, d, rules.steps.0 * rules.span.0 as u64));
+        Travel { place, last }
+    }
+
+    // The unshifted position.
+    pub(crate) fn units(self, rules: InForce) -> Units
+        requires { ⌜ Inside rules self ⌝ }
+        ensures { λ r. ⌜ (r .0 ≡ unshifted rules self) × (r .0 < rules .span .0) ⌝ }
+    {
+        Units((self.place.0 * rules.scale.0 as u64 / rules.steps.0 % rules.span.0 as u64) as u32)
+    }
+
+    // The position.
+    fn position(self, rules: InForce, offset: i64) -> u32
+        requires { ⌜ Inside rules self ⌝ }
+        ensures { λ r. ⌜ r ≡ positionAt rules offset self ⌝ }
+    {
+        let unshifted = self.units(rules);
+        ring::moved(unshifted.0 as u64, offset, rules.span.0 as u64) as u32
+    }
+
+    // New readings that are taken, and the position at each.
+    pub(crate) fn follow(
+        self,
+        rules: InForce,
+        offset: i64,
+        raws: &[u32],
+        positions: &mut [u32],
+    ) -> Travel
+        requires { ⌜ Inside rules self × (length (now raws) ≡ length (now positions)) × (refusalIn rules (self .last .0) (now raws) ≡ 0) ⌝ }
+        ensures { λ r. ⌜ (r ≡ after rules self (now (raws .entry))) × (now (positions .exit) ≡ positionsIn rules offset self (now (raws .entry))) ⌝ }
+    {
+        let mut travel = self;
+        let mut i = 0;
+        while i < raws.len() {
+            let next = travel.advanced(rules, raws[i]);
+            positions[i] = next.position(rules, offset);
+            travel = next;
+            i += 1;
+        }
+        travel
+    }
+}

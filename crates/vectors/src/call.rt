@@ -1,0 +1,167 @@
+// Calls on an axis, a line for each: a word of eight columns, and the numbers that the call takes, decimal but for the octet of the
+// parameters. `axis  2` and `axis  4` bring a nameplate and parameters, and `given` the numbers of a record.
+ghost use Rattle.io.specs.Counts.{Counts};
+use crate::answer;
+use crate::parse::decimal;
+use crate::parse::long;
+use crate::parse::past_blanks;
+use crate::parse::signed;
+use crate::vector::nameplate;
+use crate::vector::parameters;
+use axis::Axis;
+use axis::Next;
+use encoder::nameplate::Nameplate;
+use encoder::parameters::Parameters;
+use encoder::quantity::Steps;
+use encoder::quantity::Turns;
+use encoder::quantity::Units;
+use travel::Travel;
+use velocity::velocity;
+
+// Makes the call, and yields the axis that it leaves. `number` is a reading by its raw number, `preset` an absolute and `change` a relative
+// preset, `hold` sets the held preset value.
+pub(crate) fn run(axis: Axis, word: u8, line: &[u8]) -> Axis {
+    match word {
+        b'a' => described(line),
+        b'g' => given(axis, line),
+        b'f' => answered(first(axis, line)),
+        b'r' => answered(reading(axis, line)),
+        b'n' => answered(axis.read_raw(decimal(line, 8).value)),
+        b'p' => answered(axis.preset(signed(line, 8).value, false)),
+        b'c' => answered(axis.preset(signed(line, 8).value, true)),
+        b'h' => answered(axis.store(signed(line, 8).value)),
+        b'l' => list(axis, line),
+        b'v' => fast(axis, line),
+        _ => axis,
+    }
+}
+
+fn answered(next: Next) -> Axis {
+    answer::next(next);
+    next.axis
+}
+
+// `axis  2` and `axis  4`: a nameplate and parameters, not started.
+fn described(line: &[u8]) -> Axis {
+    let head = nameplate(line);
+    let plate = head.plate;
+    fresh(plate, parameters(line, head.next))
+}
+
+// Before the first line that describes an axis: none that any call takes.
+pub(crate) fn none() -> Axis {
+    let plate = Nameplate {
+        steps: Steps(0),
+        turns: Turns(0),
+        ident: 0,
+        software: [0; 2],
+        serial: [0; 10],
+    };
+    fresh(
+        plate,
+        Parameters::Class2 {
+            operating: 0,
+            units: Units(0),
+            range: Units(0),
+        },
+    )
+}
+
+fn fresh(nameplate: Nameplate, parameters: Parameters) -> Axis {
+    Axis {
+        nameplate,
+        parameters,
+        travel: Travel::NOWHERE,
+        offset: 0,
+        preset: 0,
+        stored: 0,
+    }
+}
+
+// `given`: place, last reading, offset, last preset and held preset value, whatever they are.
+fn given(axis: Axis, line: &[u8]) -> Axis {
+    let place = long(line, 8);
+    let last = long(line, place.next);
+    let offset = signed(line, last.next);
+    let preset = signed(line, offset.next);
+    let stored = signed(line, preset.next);
+    let travel = Travel {
+        place: Steps(place.value),
+        last: Steps(last.value),
+    };
+    let mut record = axis;
+    record.travel = travel;
+    record.offset = offset.value;
+    record.preset = preset.value;
+    record.stored = stored.value;
+    record
+}
+
+// `first`: starts the axis at a step and a turn.
+fn first(axis: Axis, line: &[u8]) -> Next {
+    let step = decimal(line, 8);
+    let turn = decimal(line, step.next);
+    let plate = axis.nameplate;
+    let parameters = axis.parameters;
+    Axis::start(
+        plate,
+        parameters,
+        Steps(step.value as u64),
+        Turns(turn.value),
+    )
+}
+
+// `reading`: a step and a turn.
+fn reading(axis: Axis, line: &[u8]) -> Next {
+    let step = decimal(line, 8);
+    let turn = decimal(line, step.next);
+    axis.read(Steps(step.value as u64), Turns(turn.value))
+}
+
+// `velocity`: a step, a turn, and the milliseconds since the last reading.
+fn fast(axis: Axis, line: &[u8]) -> Axis {
+    let step = decimal(line, 8);
+    let turn = decimal(line, step.next);
+    let elapsed = decimal(line, turn.next);
+    let e = (elapsed.value % 65536) as u16;
+    answer::speed(velocity(axis, Steps(step.value as u64), Turns(turn.value), e));
+    axis
+}
+
+// `list`: how many positions are lent, each of them 7, and the raw numbers.
+fn list(axis: Axis, line: &[u8]) -> Axis {
+    let size = decimal(line, 8);
+    let mut raws = [0u32; 64];
+    let n = numbers(line, size.next, &mut raws);
+    let m = size.value as usize;
+    let mut positions = [7u32; 64];
+    if 64 < m {
+        return axis;
+    }
+    batch(axis, &raws[..n], &mut positions[..m])
+}
+
+fn batch(axis: Axis, raws: &[u32], positions: &mut [u32]) -> Axis {
+    let next = batch::batch(axis, raws, positions);
+    answer::next(next);
+    answer::positions(positions);
+    next.axis
+}
+
+// Puts the numbers of a line at the front of out, and answers how many there are.
+fn numbers(line: &[u8], from: usize, out: &mut [u32]) -> usize
+    ensures { λ r. ⌜ Counts r (now (out .exit)) ⌝ }
+{
+    let mut at = past_blanks(line, from);
+    let mut n = 0;
+    while n < out.len() {
+        if line.len() <= at {
+            return n;
+        }
+        let number = decimal(line, at);
+        out[n] = number.value;
+        at = past_blanks(line, number.next);
+        n += 1;
+    }
+    n
+}

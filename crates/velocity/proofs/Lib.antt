@@ -1,0 +1,2 @@
+pub mod VelocityLaws
+pub mod SpeedLaws

@@ -1,0 +1,84 @@
+-- Each way out of a velocity, by the answers of the calls on that way.
+-- Assumes nothing.
+use mathlib.Core.Path.{_≡_, sym}
+use Prim.Native.Nat.{ℕ, _^_, _≤_, _<_}
+use native.Mathlib.Omega.{arith}
+use lib.IntN.{ℤ, natAbs}
+use borrow.Author.Tests.{eq-eqb, ne-eqb}
+use mir.Syntax.{w64, w32}
+use mir.Val.{toZ, ofZ}
+use Rattle.integer.proofs.Size.{reads}
+use Rattle.encoder.specs.declared.effect.InForce.{InForce}
+use Rattle.encoder.specs.declared.effect.Effect.{Effect}
+use Rattle.encoder.specs.declared.effect.Effect.the-variants.{Refused as NotInForce}
+use Rattle.sensor.specs.declared.Reading.{Reading}
+use Rattle.sensor.specs.declared.Reading.the-variants.{Number, Refused as NotRead}
+use Rattle.sensor.specs.Reading.{numbered}
+use Rattle.encoder.proofs.RefusalLaws.{refused-is, before-first}
+use Rattle.sensor.proofs.ReadingLaws.{reading-taken, reading-refused}
+use Rattle.travel.specs.declared.Approach.{Approach}
+use Rattle.travel.specs.declared.Approach.the-variants.{By, Refused as NotApproached}
+use Rattle.travel.specs.Travel.{moveOf, travelRefusal, approached}
+use Rattle.travel.proofs.SensorLaws.{move-most, move-fits}
+use Rattle.travel.proofs.TravelLaws.{by-taken, by-refused}
+use Rattle.axis.specs.declared.Axis.{Axis}
+use Rattle.axis.specs.Axis.{inForceOn, Ready}
+use Rattle.axis.proofs.AxisLaws.{ready-of, outside-of, stands-none}
+use Rattle.velocity.specs.declared.Speed.the-variants.{At, Refused}
+use Rattle.velocity.specs.Velocity.{rateOf, velocityRefusal, velocityAt}
+use Rattle.velocity.proofs.VelocityLaws.{rate-fits}
+
+pub elapsed-least : (e : ℕ) → (e ≡ 0 → ⊥) → 0 < e
+elapsed-least e h = omega arith
+
+-- a record outside its limits
+pub velocity-16 : (a : Axis) (v : Effect) (s t e n : ℕ) → v ≡ NotInForce n → v ≡ inForceOn a → Refused n ≡ velocityAt a s t e
+unfolding velocityAt velocityRefusal
+velocity-16 a v s t e n h v-is = let i = outside-of a v n h v-is in rw (i .0, before-first n _ (i .1)) (sym (refused-is Refused _ n (i .1)))
+
+module _ (a : Axis) (f : InForce) (r : Ready a f) where
+  -- the move of a reading that is taken
+  module _ (raw : ℕ) (m : Approach) (d : ℤ) (h : m ≡ By d) (m-is : m ≡ approached f (a .travel) raw) where
+    move-is : (travelRefusal f (a .travel) raw ≡ 0) × (d ≡ moveOf f (a .travel .last .0) raw)
+    unfolding approached
+    move-is = by-taken m _ d (travelRefusal f (a .travel) raw) h m-is
+
+    pub move-small : natAbs (toZ w64 (ofZ w64 d)) ≤ 2 ^ 31
+    move-small =
+        rw (move-is .1, reads (move-fits f (a .travel .last .0) raw (r .travel .sound)))
+        (omega (arith, move-most f (a .travel .last .0) raw (r .travel .sound), r .travel .sound .capacity-most))
+
+  module _ (s t e : ℕ) where
+    pub velocity-14 : e ≡ 0 → Refused 14 ≡ velocityAt a s t e
+    unfolding velocityAt velocityRefusal
+    velocity-14 z = rw (stands-none a f r, eq-eqb e 0 z)
+
+    module _ (e-not : e ≡ 0 → ⊥) (q : Reading) where
+      pub velocity-reading : (n : ℕ) → q ≡ NotRead n → q ≡ numbered (a .nameplate) s t → Refused n ≡ velocityAt a s t e
+      unfolding velocityAt velocityRefusal
+      velocity-reading n g q-is =
+          let i = reading-refused (a .nameplate) s t q n g q-is in
+          rw (stands-none a f r, ne-eqb e 0 e-not, i .0, before-first n _ (i .1)) (sym (refused-is Refused _ n (i .1)))
+
+      module _ (raw : ℕ) (g : q ≡ Number raw) (q-is : q ≡ numbered (a .nameplate) s t) (m : Approach) where
+        number-is : (n : ℕ) → travelRefusal f (a .travel) raw ≡ n → velocityRefusal a s t e ≡ n
+        unfolding velocityRefusal
+        number-is n h =
+            let i = reading-taken (a .nameplate) s t q raw g q-is in
+            rw (stands-none a f r, ne-eqb e 0 e-not, i .0, ← i .1, ← r .is) h
+
+        pub velocity-move : (n : ℕ) → m ≡ NotApproached n → m ≡ approached f (a .travel) raw → Refused n ≡ velocityAt a s t e
+        unfolding velocityAt approached
+        velocity-move n h m-is =
+            let i = by-refused m _ (travelRefusal f (a .travel) raw) n h m-is in
+            rw (number-is n (i .0)) (sym (refused-is Refused _ n (i .1)))
+
+        pub velocity-at : (d z : ℤ) → m ≡ By d → z ≡ rateOf f (toZ w64 (ofZ w64 d)) e → m ≡ approached f (a .travel) raw
+            → At (toZ w32 (ofZ w32 z)) ≡ velocityAt a s t e
+        unfolding velocityAt
+        velocity-at d z h z-is m-is =
+            let i = move-is raw m d h m-is in
+            let j = reading-taken (a .nameplate) s t q raw g q-is in
+            rw (number-is 0 (i .0), z-is, reads (rate-fits f (toZ w64 (ofZ w64 d)) e), i .1, reads (move-fits f (a .travel .last .0) raw (r .travel .sound)), j .1, r .is)
+
+pub ruleset speeds = (ready-of, elapsed-least, move-small, velocity-16, velocity-14, velocity-reading, velocity-move, velocity-at)

@@ -1,0 +1,17 @@
+-- By the laws of SpeedLaws, one for each way out.
+-- Assumes nothing.
+use borrow.Author.Needs.{needs}
+use Rattle.velocity.proofs.SpeedLaws.{speeds}
+use Rattle.velocity.proofs.velocity.Statement.{statement}
+use Rattle.velocity.proofs.velocity.Tie as tie
+
+pub velocity-spec : {M : Type 1} → statement M
+velocity-spec =
+    tie.close
+    (tie.spec
+    (λ c κs. search needs)
+    (λ c. search needs)
+    (λ c κs. search (needs, speeds))
+    (λ c. search needs)
+    (λ c. search needs)
+    (λ c. search (needs, speeds)))
