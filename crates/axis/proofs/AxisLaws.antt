@@ -13,11 +13,11 @@ use Rattle.ring.specs.Ring.{inRange}
 use Rattle.encoder.specs.declared.effect.InForce.{InForce}
 use Rattle.encoder.specs.declared.effect.Effect.{Effect}
 use Rattle.encoder.specs.declared.effect.Effect.the-variants.{Taken, Refused}
-use Rattle.encoder.specs.Refusal.{when, answer}
+use Rattle.encoder.specs.Refusal.{when}
 use Rattle.encoder.specs.Parameters.{refusalOn}
 use Rattle.encoder.specs.InForce.{inForce}
 use Rattle.encoder.proofs.PlateLaws.{and-split}
-use Rattle.encoder.proofs.ForceLaws.{in-force-taken, in-force-refused}
+use Rattle.encoder.proofs.ForceLaws.{effect-taken, effect-refused, in-force-taken, in-force-refused}
 use Rattle.travel.specs.Travel.{inside, Inside}
 use Rattle.travel.proofs.TravelLaws.{inside-true, inside-is}
 use Rattle.axis.specs.declared.Axis.{Axis}
@@ -88,25 +88,22 @@ accepts a l =
     )
 
 -- ---- the answer taken apart
-taken-by : (b : Bool) (g f : InForce) → answer Refused (Taken g) (when (not b) 16) ≡ Taken f → (b ≡ true) × (f ≡ g)
-taken-by true g f e = (refl, cc)
-taken-by false g f e = let z : _≡_ {A = ℕ} 0 1 = cc in absurd (omega arith)
-
-outside-by : (b : Bool) (g : InForce) (n : ℕ) → answer Refused (Taken g) (when (not b) 16) ≡ Refused n → (when (not b) 16 ≡ n) × (n ≡ 0 → ⊥)
-outside-by true g n e = let z : _≡_ {A = ℕ} 0 1 = cc in absurd (omega arith)
-outside-by false g n e = let z : 16 ≡ n = cc in (z, λ h. omega arith)
+none-outside : (b : Bool) → when (not b) 16 ≡ 0 → b ≡ true
+none-outside true e = refl
+none-outside false e = absurd (omega arith)
 
 module _ (a : Axis) (e : Effect) where
   pub ready-of : (f : InForce) → e ≡ Taken f → e ≡ inForceOn a → Ready a f
   unfolding inForceOn axisRefusal
   ready-of f h e-is =
-      let i = taken-by (acceptable a) (rulesOn a) f (sym e-is ∙ h) in
-      let l = limits-of a (i .0) in
-      record { is = i .1; stands = i .0; travel = rw (i .1) (l .travel); offset = rw (i .1) (l .offset) }
+      let i = effect-taken (axisRefusal a) (rulesOn a) f (sym e-is ∙ h) in
+      let t = none-outside (acceptable a) (i .0) in
+      let l = limits-of a t in
+      record { is = i .1; stands = t; travel = rw (i .1) (l .travel); offset = rw (i .1) (l .offset) }
 
   pub outside-of : (n : ℕ) → e ≡ Refused n → e ≡ inForceOn a → (axisRefusal a ≡ n) × (n ≡ 0 → ⊥)
-  unfolding inForceOn axisRefusal
-  outside-of n h e-is = outside-by (acceptable a) (rulesOn a) n (sym e-is ∙ h)
+  unfolding inForceOn
+  outside-of n h e-is = effect-refused (axisRefusal a) n (rulesOn a) (sym e-is ∙ h)
 
 module _ (a : Axis) (f : InForce) (r : Ready a f) where
   pub stands-none : axisRefusal a ≡ 0

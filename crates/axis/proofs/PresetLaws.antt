@@ -7,8 +7,7 @@ use native.Mathlib.Omega.{arith}
 use lib.IntN.{ℤ, pos, _+ℤ_, _-ℤ_, +ℤ-idl}
 use mir.Syntax.{w64}
 use mir.Val.{SFits, toZ, ofZ}
-use mir.ValLaws.{toZ-pos}
-use Rattle.integer.proofs.Size.{abs-diff, reads, fits-abs}
+use Rattle.integer.proofs.Size.{reads, diff-fits, diff-reads}
 use Rattle.ring.specs.Ring.{onRing, inRange}
 use Rattle.encoder.specs.declared.effect.InForce.{InForce}
 use Rattle.encoder.specs.declared.effect.Effect.{Effect}
@@ -79,11 +78,7 @@ module _ (a : Axis) (f : InForce) (r : Ready a f) (v : ℤ) (fits : SFits w64 v)
 
     module _ (to u : ℕ) (to-lt : to < f .span .0) (u-lt : u < f .span .0) where
       offset-is : toZ w64 (ofZ w64 (toZ w64 to -ℤ toZ w64 u)) ≡ pos to -ℤ pos u
-      offset-is =
-          let m = r .travel .sound .span-most in
-          let i : toZ w64 to ≡ pos to = toZ-pos w64 to (omega arith) in
-          let j : toZ w64 u ≡ pos u = toZ-pos w64 u (omega arith) in
-          rw (i, j) (reads (fits-abs (pos to -ℤ pos u) (omega (arith, abs-diff (pos to) (pos u)))))
+      offset-is = let m = r .travel .sound .span-most in diff-reads to u (omega arith) (omega arith)
 
       pub preset-to : (relative : Bool) → n ≡ 0 → x ≡ accepted (shifted a (toZ w64 (ofZ w64 (toZ w64 to -ℤ toZ w64 u))) (toZ w64 (ofZ w64 v)))
           → to ≡ asked a (toZ w64 (ofZ w64 v)) relative → u ≡ unshiftedOf a → x ≡ preset a v relative
@@ -91,9 +86,7 @@ module _ (a : Axis) (f : InForce) (r : Ready a f) (v : ℤ) (fits : SFits w64 v)
       preset-to relative z w to-is u-is = w ∙ rw (number-is, z, offset-is, reads fits) (rw (to-is, u-is, reads fits))
 
 pub offset-new : (a : Axis) (f : InForce) (to u : ℕ) → Ready a f → to < f .span .0 → u < f .span .0 → SFits w64 (toZ w64 to -ℤ toZ w64 u)
-offset-new a f to u r to-lt u-lt =
-    let m = r .travel .sound .span-most in
-    rw (toZ-pos w64 to (omega arith), toZ-pos w64 u (omega arith)) (fits-abs (pos to -ℤ pos u) (omega (arith, abs-diff (pos to) (pos u))))
+offset-new a f to u r to-lt u-lt = let m = r .travel .sound .span-most in diff-fits to u (omega arith) (omega arith)
 
 -- ---- the value as the machine reads it back
 module _ (a : Axis) (v : ℤ) (fits : SFits w64 v) (x : Next) where

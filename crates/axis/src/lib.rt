@@ -71,6 +71,7 @@ impl Axis {
         travel.inside(rules) & offset & preset & stored
     }
 
+    // The next axis, of a call that was taken.
     fn accepted(self) -> Next
         ensures { λ r. ⌜ r ≡ accepted self ⌝ }
     {
@@ -80,6 +81,7 @@ impl Axis {
         }
     }
 
+    // The axis as it was, and the number of the refusal.
     fn refused(self, n: u8) -> Next
         ensures { λ r. ⌜ r ≡ refused self n ⌝ }
     {

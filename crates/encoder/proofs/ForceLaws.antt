@@ -47,21 +47,21 @@ module _ (n : Nameplate) (p : Parameters) (k : ℕ) where
       force-off t s-is c-is v-is a-is = rw (← k-is, none, ← f-is, ← s-is, t, ← c-is, v-is, a-is)
 
 -- ---- the answer taken apart
-taken-by : (k : ℕ) (g f : InForce) → answer Refused (Taken g) k ≡ Taken f → (k ≡ 0) × (f ≡ g)
-taken-by zero g f e = (refl, cc)
-taken-by (suc k) g f e = let z : _≡_ {A = ℕ} 0 1 = cc in absurd (omega arith)
+pub effect-taken : (k : ℕ) (g f : InForce) → answer Refused (Taken g) k ≡ Taken f → (k ≡ 0) × (f ≡ g)
+effect-taken zero g f e = (refl, cc)
+effect-taken (suc k) g f e = let z : _≡_ {A = ℕ} 0 1 = cc in absurd (omega arith)
 
-refused-by : (k n : ℕ) (g : InForce) → answer Refused (Taken g) k ≡ Refused n → (k ≡ n) × (n ≡ 0 → ⊥)
-refused-by zero n g e = let z : _≡_ {A = ℕ} 0 1 = cc in absurd (omega arith)
-refused-by (suc k) n g e = let z : suc k ≡ n = cc in (z, λ h. omega arith)
+pub effect-refused : (k n : ℕ) (g : InForce) → answer Refused (Taken g) k ≡ Refused n → (k ≡ n) × (n ≡ 0 → ⊥)
+effect-refused zero n g e = let z : _≡_ {A = ℕ} 0 1 = cc in absurd (omega arith)
+effect-refused (suc k) n g e = let z : suc k ≡ n = cc in (z, λ h. omega arith)
 
 module _ (n : Nameplate) (p : Parameters) (e : Effect) where
   pub in-force-taken : (f : InForce) → e ≡ Taken f → e ≡ inForce n p → (refusalOn n p ≡ 0) × (f ≡ rulesOf n (fieldsOf p))
   unfolding inForce
-  in-force-taken f t e-is = taken-by (refusalOn n p) (rulesOf n (fieldsOf p)) f (sym e-is ∙ t)
+  in-force-taken f t e-is = effect-taken (refusalOn n p) (rulesOf n (fieldsOf p)) f (sym e-is ∙ t)
 
   pub in-force-refused : (k : ℕ) → e ≡ Refused k → e ≡ inForce n p → (refusalOn n p ≡ k) × (k ≡ 0 → ⊥)
   unfolding inForce
-  in-force-refused k t e-is = refused-by (refusalOn n p) k (rulesOf n (fieldsOf p)) (sym e-is ∙ t)
+  in-force-refused k t e-is = effect-refused (refusalOn n p) k (rulesOf n (fieldsOf p)) (sym e-is ∙ t)
 
 pub ruleset force = (force-refused, force-plate, force-steps, force-on, force-off)

@@ -1,15 +1,15 @@
 -- How far an integer lies from 0: of sums, products and quotients, and that a number that is near enough fits its type.
 -- Assumes nothing.
-use mathlib.Core.Path.{_≡_, refl}
+use mathlib.Core.Path.{_≡_, refl, _∙_}
 use Prim.Native.Nat.{ℕ, suc, _+_, _*_, _/_, _<_, _≤_, _^_}
 use native.Mathlib.Omega.{arith}
 use native.Mathlib.Nat as N
 use lib.Dec.{T}
 use lib.IntN.{ℤ, pos, negsuc, negℤ, natAbs, _+ℤ_, _-ℤ_, _*ℤ_}
 use lib.Signed.{nonNeg, quotZ}
-use mir.Syntax.{Width}
+use mir.Syntax.{Width, w64}
 use mir.Val.{Fits, SFits, toZ, ofZ, bits, hbits}
-use mir.ValLaws.{toZ-ofZ}
+use mir.ValLaws.{toZ-ofZ, toZ-pos}
 use Rattle.integer.proofs.Signed.{above, below, apart, neg-is, add-is, diff-is}
 
 pub abs-is : (z : ℤ) → natAbs z ≡ above z + below z
@@ -34,6 +34,17 @@ fits-abs (negsuc n) h = record { sfits = N.lt-trans (N.le-refl (suc n)) h }
 pub to-nat : {w : Width} (z : ℤ) → (below z ≡ 0) × (natAbs z < 2 ^ bits w) → T (nonNeg z) × Fits w (natAbs z)
 to-nat (pos n) h = (tt, record { fits = h .1 })
 to-nat (negsuc n) h = absurd (omega arith)
+
+-- the difference of two natural numbers that are small enough: it fits, and is read back
+module _ (a b : ℕ) (a-most : a ≤ 2 ^ 31) (b-most : b ≤ 2 ^ 31) where
+  read-both : toZ w64 a -ℤ toZ w64 b ≡ pos a -ℤ pos b
+  read-both = rw (toZ-pos w64 a (omega arith), toZ-pos w64 b (omega arith))
+
+  pub diff-fits : SFits w64 (toZ w64 a -ℤ toZ w64 b)
+  diff-fits = rw read-both (fits-abs (pos a -ℤ pos b) (omega (arith, abs-diff (pos a) (pos b))))
+
+  pub diff-reads : toZ w64 (ofZ w64 (toZ w64 a -ℤ toZ w64 b)) ≡ pos a -ℤ pos b
+  diff-reads = reads diff-fits ∙ read-both
 
 -- ---- products and quotients
 abs-neg : (z : ℤ) → natAbs (negℤ z) ≡ natAbs z

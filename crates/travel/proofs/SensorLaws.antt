@@ -12,7 +12,7 @@ use mir.Syntax.{w64}
 use mir.Val.{SFits, toZ, ofZ}
 use mir.ValLaws.{toZ-pos}
 use Rattle.integer.proofs.Signed.{signed, neg-is, diff-is}
-use Rattle.integer.proofs.Size.{abs-is, abs-diff, reads, fits-abs}
+use Rattle.integer.proofs.Size.{abs-is, fits-abs, diff-fits, diff-reads}
 use Rattle.integer.proofs.Modulus.{modulo-lt, modulo-is}
 use Rattle.encoder.specs.declared.effect.InForce.{InForce}
 use Rattle.encoder.specs.InForce.{Sound}
@@ -67,11 +67,7 @@ module _ (n c : ℕ) (lt : n < c) where
 
   module _ (most : c ≤ 2 ^ 31) where
     pub back-fits : SFits w64 (toZ w64 n -ℤ toZ w64 c)
-    back-fits =
-        rw (toZ-pos w64 n (omega arith), toZ-pos w64 c (omega arith)) (fits-abs (pos n -ℤ pos c) (omega (arith, abs-diff (pos n) (pos c))))
-
-    read-back : toZ w64 (ofZ w64 (toZ w64 n -ℤ toZ w64 c)) ≡ pos n -ℤ pos c
-    read-back = reads back-fits ∙ rw (toZ-pos w64 n (omega arith), toZ-pos w64 c (omega arith))
+    back-fits = diff-fits n c (omega arith) most
 
 module _ (f : InForce) (last raw : ℕ) (s : Sound f) where
   pub move-most : natAbs (moveOf f last raw) ≤ f .capacity .0
@@ -88,7 +84,7 @@ module _ (f : InForce) (last raw : ℕ) (s : Sound f) where
 
     pub move-back : f .capacity .0 ≤ 2 * n → toZ w64 (ofZ w64 (toZ w64 n -ℤ toZ w64 (f .capacity .0))) ≡ moveOf f last raw
     unfolding moveOf
-    move-back h = rw (← n-is, shorter-back n _ lt h) (read-back n (f .capacity .0) lt (s .capacity-most))
+    move-back h = rw (← n-is, shorter-back n _ lt h) (diff-reads n (f .capacity .0) (omega (arith, s .capacity-most)) (s .capacity-most))
 
 -- ---- the refusals
 module _ (f : InForce) (last raw : ℕ) where
