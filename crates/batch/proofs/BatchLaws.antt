@@ -40,7 +40,7 @@ module _ (a : Axis) (l : Limits a) (raw : ℕ) where
   unfolding readRawRefusal axisRefusal
   number-is = rw (accepts a l) (read-refusal (rulesOn a) (a .travel) (l .travel) raw)
 
-  singly : (n : ℕ) → moveRefusal (rulesOn a) (lastOf a) raw ≡ n → readRaw a raw ≡ next a n (atRaw a raw)
+  pub singly : (n : ℕ) → moveRefusal (rulesOn a) (lastOf a) raw ≡ n → readRaw a raw ≡ next a n (atRaw a raw)
   unfolding readRaw
   singly n e = rw (number-is, e)
 
@@ -65,7 +65,7 @@ first-step a raw s l zero e rest =
     rw (singly a l raw zero e, e) (rw (rules-kept a l raw, last-moved a l raw) at (rest (kept a l raw e)))
 first-step a raw s l (suc n) e rest = rw (singly a l raw (suc n) e, e)
 
-first-is : (a : Axis) (s : List ℕ) → Limits a → firstRefusal a s ≡ refusalIn (rulesOn a) (lastOf a) s
+pub first-is : (a : Axis) (s : List ℕ) → Limits a → firstRefusal a s ≡ refusalIn (rulesOn a) (lastOf a) s
 unfolding firstRefusal refusalIn
 first-is a [] l = refl
 first-is a (raw ∷ s) l = first-step a raw s l (moveRefusal (rulesOn a) (lastOf a) raw) refl (first-is (atRaw a raw) s)

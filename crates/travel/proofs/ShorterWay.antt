@@ -3,13 +3,13 @@
 -- Assumes nothing.
 use mathlib.Core.Path.{_≡_, refl}
 use mathlib.Core.Bool.{Bool, true, false}
-use Prim.Native.Nat.{ℕ, _*_, _<_}
+use Prim.Native.Nat.{ℕ, suc, _-_, _*_, _<_}
 use native.Mathlib.Omega.{arith}
 use lib.Dec.{eqb, ltb, leb}
-use lib.IntN.{pos, natAbs, _-ℤ_}
+use lib.IntN.{ℤ, pos, negsuc, natAbs, _-ℤ_}
 use borrow.Author.Tests.{eqb-false, ltb-true, ltb-false}
 use Rattle.integer.specs.Modulus.{_modulo_}
-use Rattle.integer.proofs.Signed.{apart, diff-is}
+use Rattle.integer.proofs.Signed.{signed, apart, diff-is}
 use Rattle.integer.proofs.Size.{abs-is}
 use Rattle.integer.proofs.Modulus.{modulo-is}
 use Rattle.encoder.specs.declared.effect.InForce.{InForce}
@@ -41,3 +41,18 @@ shorter-way f last raw s e =
     let c = f .capacity .0 in
     let z = before-none (when (leb c raw) wrongTurn) (when (eqb (2 * n) c) halfRange) e .1 in
     by-half n c (ltb (2 * n) c) refl (difference-lt f last raw s) (not-half (2 * n) c (eqb (2 * n) c) refl z)
+
+-- and no other number is: a move of less than half the range that is the difference modulo C is the one that is found
+only : (m : ℤ) (c : ℕ) → 2 * natAbs m < c → shorter (m modulo c) c ≡ m
+only (pos a) c h =
+    let e : pos a modulo c ≡ a = modulo-is (pos a) 0 0 (omega arith) (omega arith) in
+    rw e (shorter-ahead a c (omega arith) h)
+only (negsuc a) c h =
+    let n = c - suc a in
+    let e : negsuc a modulo c ≡ n = modulo-is (negsuc a) 1 0 (omega arith) (omega arith) in
+    rw (e, shorter-back n c (omega arith) (omega arith)) (omega (signed, diff-is (pos n) (pos c)))
+
+pub shorter-only : (f : InForce) (last raw : ℕ) (m : ℤ) → 2 * natAbs m < f .capacity .0 → difference f last raw ≡ m modulo f .capacity .0
+    → moveOf f last raw ≡ m
+unfolding moveOf
+shorter-only f last raw m h e = rw e (only m (f .capacity .0) h)

@@ -1,9 +1,8 @@
--- Every axis that a call yields from an acceptable one is acceptable, so that 16 never comes of a record of our own making: what a call
--- changes of the record is within the limits by the rule that changes it.
+-- Every axis that a call yields from one within its limits is within its limits: what a call changes of the record is within them by the rule that
+-- changes it. What is started is within them too, and what a refused start leaves is not.
 -- Assumes nothing.
 use mathlib.Core.Path.{_≡_, refl}
 use mathlib.Core.Bool.{Bool, true, false, not}
-use mathlib.Core.List.{List, [], _∷_}
 use Prim.Native.Nat.{ℕ, zero, suc, _<_}
 use native.Mathlib.Omega.{arith}
 use native.Mathlib.Nat as N
@@ -26,30 +25,28 @@ use Rattle.sensor.proofs.ReadingLaws.{reading-lt}
 use Rattle.encoder.proofs.SoundLaws.{taken-sound}
 use Rattle.travel.specs.Travel.{nowhere, started as travelStarted, unshifted, travelRefusal}
 use Rattle.travel.proofs.TravelLaws.{inside-is, nowhere-out, started-kept as travel-kept}
 use Rattle.axis.specs.declared.Axis.{Axis}
 use Rattle.axis.specs.Axis.{rulesOn, acceptable, axisRefusal, unshiftedOf, positionOf}
 use Rattle.axis.specs.Reading.{next, fresh, startRefusal, start, atRaw, readRawRefusal, readRaw, readRefusal, read}
 use Rattle.axis.specs.Preset.{valueRefusal, presetRefusal, asked, presetted, preset, holding, store}
-use Rattle.batch.specs.Batch.{after, batchRefusal, batch}
-use Rattle.calls.specs.Calls.{Call, reading, rawReading, presetting, storing, batching, yields}
 use Rattle.axis.proofs.AxisLaws.{Limits, limits-of, accepts}
 use Rattle.axis.proofs.ReadingLaws.{first, travelled-kept}
 
 apart-lt : (x y n : ℕ) → x < n → y < n → natAbs (pos x -ℤ pos y) < n
 apart-lt x y n h k = let z = pos x -ℤ pos y in omega (signed, diff-is (pos x) (pos y), abs-is z, apart z)
 
 -- the axis of an answer is the one before, or that of a call that was taken
-by-number : (a b : Axis) (n : ℕ) → Limits a → (n ≡ 0 → Limits b) → Limits (next a n b .axis)
+pub by-number : (a b : Axis) (n : ℕ) → Limits a → (n ≡ 0 → Limits b) → Limits (next a n b .axis)
 by-number a b zero l k = k refl
 by-number a b (suc n) l k = l
 
 module _ (a : Axis) (l : Limits a) where
   -- ---- a reading that is taken moves the travel within its limits
-  raw-kept : (raw : ℕ) → Limits (readRaw a raw .axis)
+  pub raw-kept : (raw : ℕ) → Limits (readRaw a raw .axis)
   unfolding readRaw readRawRefusal
   raw-kept raw = by-number a (atRaw a raw) (readRawRefusal a raw) l (λ e. travelled-kept a l raw (before-none (axisRefusal a) _ e .1))
 
-  read-kept : (s t : ℕ) → Limits (read a s t .axis)
+  pub read-kept : (s t : ℕ) → Limits (read a s t .axis)
   unfolding read readRefusal
   read-kept s t =
       let raw = rawOf (a .nameplate) s t in
@@ -60,7 +57,7 @@ module _ (a : Axis) (l : Limits a) where
   span-least : 0 < rulesOn a .span .0
   span-least = l .travel .sound .span-least
 
-  asked-lt : (v : ℤ) (relative : Bool) → asked a v relative < rulesOn a .span .0
+  pub asked-lt : (v : ℤ) (relative : Bool) → asked a v relative < rulesOn a .span .0
   unfolding asked
   asked-lt v true = modulo-lt (pos (positionOf a) +ℤ v) span-least
   asked-lt v false = modulo-lt v span-least
@@ -81,48 +78,29 @@ module _ (a : Axis) (l : Limits a) where
       within x n true t h = ltb-true x n t
       within x n false t h = absurd (omega arith)
 
-  preset-kept : (v : ℤ) (relative : Bool) → Limits (preset a v relative .axis)
-  unfolding preset presetted rulesOn
-  preset-kept v relative =
-      by-number a (presetted a v relative) (presetRefusal a v) l
-      (λ e.
+  pub presetted-kept : (v : ℤ) (relative : Bool) → natAbs v < rulesOn a .span .0 → Limits (presetted a v relative)
+  unfolding presetted rulesOn
+  presetted-kept v relative h =
       record {
         none = l .none;
         travel = l .travel;
         offset = apart-lt (asked a v relative) (unshiftedOf a) (rulesOn a .span .0) (asked-lt v relative) unshifted-lt;
-        preset = value-lt v e;
+        preset = h;
         stored = l .stored;
-      })
+      }
 
-  store-kept : (v : ℤ) → Limits (store a v .axis)
+  pub preset-kept : (v : ℤ) (relative : Bool) → Limits (preset a v relative .axis)
+  unfolding preset
+  preset-kept v relative = by-number a (presetted a v relative) (presetRefusal a v) l (λ e. presetted-kept v relative (value-lt v e))
+
+  pub store-kept : (v : ℤ) → Limits (store a v .axis)
   unfolding store rulesOn
   store-kept v =
       by-number a (holding a v) (presetRefusal a v) l
       (λ e. record { none = l .none; travel = l .travel; offset = l .offset; preset = l .preset; stored = value-lt v e })
 
--- ---- a batch is readings one after the other
-after-kept : (a : Axis) (s : List ℕ) → Limits a → Limits (after a s)
-unfolding after
-after-kept a [] l = l
-after-kept a (raw ∷ s) l = after-kept (readRaw a raw .axis) s (raw-kept a l raw)
-
-batch-kept : (a : Axis) (s out : List ℕ) → Limits a → Limits (batch a s out .axis)
-unfolding batch
-batch-kept a s out l = by-number a (after a s) (batchRefusal a s out) l (λ e. after-kept a s l)
-
--- ---- the theorem
-call-kept : (a : Axis) (c : Call) → Limits a → Limits (yields a c .axis)
-call-kept a (reading step turn) l = read-kept a l step turn
-call-kept a (rawReading raw) l = raw-kept a l raw
-call-kept a (presetting v relative) l = preset-kept a l v relative
-call-kept a (storing v) l = store-kept a l v
-call-kept a (batching raws positions) l = batch-kept a raws positions l
-
-pub limits-kept : (a : Axis) (c : Call) → acceptable a ≡ true → acceptable (yields a c .axis) ≡ true
-limits-kept a c h = accepts (yields a c .axis) (call-kept a c (limits-of a h))
-
 -- ---- the start: what is started is acceptable, and what is refused is no axis
-begun-kept : (n : Nameplate) (p : Parameters) (raw : ℕ) → refusalOn n p ≡ 0 → raw < capacityOf n → Limits (fresh n p (travelStarted (rulesOf n (fieldsOf p)) raw))
+pub begun-kept : (n : Nameplate) (p : Parameters) (raw : ℕ) → refusalOn n p ≡ 0 → raw < capacityOf n → Limits (fresh n p (travelStarted (rulesOf n (fieldsOf p)) raw))
 unfolding rulesOn rulesOf
 begun-kept n p raw e h =
     let s = taken-sound n p e in

@@ -1,0 +1,23 @@
+-- Every call on an acceptable axis leaves an acceptable one, so that 16 never comes of a record of our own making.
+-- Assumes nothing.
+use mathlib.Core.Path.{_≡_}
+use mathlib.Core.Bool.{true}
+use Rattle.axis.specs.Axis.{acceptable}
+use Rattle.axis.proofs.AxisLaws.{Limits, limits-of, accepts}
+use Rattle.axis.proofs.LimitsKept.{raw-kept, read-kept, preset-kept, store-kept}
+use Rattle.batch.proofs.BatchKept.{batch-kept}
+use Rattle.cyclic.proofs.CycleKept.{cycle-kept}
+use Rattle.accuracy.specs.Calls.{Call, reading, rawReading, batching, presetting, storing, cycling}
+use Rattle.accuracy.specs.Run.{State, yields}
+
+-- one case for each kind of call
+pub call-kept : (s : State) (c : Call) → Limits (s .axis) → Limits (yields s c .axis)
+call-kept s (reading step turn) l = read-kept (s .axis) l step turn
+call-kept s (rawReading raw) l = raw-kept (s .axis) l raw
+call-kept s (batching raws positions) l = batch-kept (s .axis) raws positions l
+call-kept s (presetting v relative) l = preset-kept (s .axis) l v relative
+call-kept s (storing v) l = store-kept (s .axis) l v
+call-kept s (cycling raw output input) l = cycle-kept (s .axis) (s .link) raw output input l
+
+pub limits-kept : (s : State) (c : Call) → acceptable (s .axis) ≡ true → acceptable (yields s c .axis) ≡ true
+limits-kept s c h = accepts (yields s c .axis) (call-kept s c (limits-of (s .axis) h))

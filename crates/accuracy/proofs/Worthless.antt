@@ -1,0 +1,171 @@
+-- Worthless programs break the claim, each on the listing's axis and within two calls: where a position is reported, no whole number of ranges brings
+-- it within a unit of the exact one; where a preset is made, the position is not the one that rule 6 gives.
+-- Assumes nothing.
+use mathlib.Core.Path.{_≡_, refl}
+use mathlib.Core.Bool.{true, false}
+use mathlib.Core.List.{[], _∷_}
+use Prim.Native.Nat.{ℕ, _*_, _<_}
+use native.Mathlib.Omega.{arith}
+use lib.IntN.{ℤ, pos, natAbs}
+use Rattle.integer.specs.Modulus.{_modulo_}
+use Rattle.integer.specs.Octets.{bigEndian, octets}
+use Rattle.integer.proofs.Signed.{apart}
+use Rattle.integer.proofs.Size.{abs-is}
+use Rattle.ring.specs.Ring.{inRange}
+use Rattle.encoder.specs.Parameters.{fieldsRefusal, refusalOn}
+use Rattle.encoder.specs.InForce.{rulesOf, rulesFit}
+use Rattle.sensor.specs.Reading.{stepRefusal}
+use Rattle.travel.specs.Travel.{inside, oriented, started, difference, shorter, moveOf, moveRefusal, movedTo, unshifted, positionAt, travelRefusal}
+use Rattle.travel.specs.Batch.{refusalIn}
+use Rattle.axis.specs.Axis.{rulesOn, acceptable, axisRefusal, unshiftedOf, positionOf, reported}
+use Rattle.axis.specs.Reading.{startRefusal, start, atRaw, readRawRefusal, readRaw}
+use Rattle.axis.specs.Preset.{valueRefusal, presetRefusal, asked, presetted, preset}
+use Rattle.batch.specs.Batch.{firstRefusal, positionsOf, batchRefusal, batchList}
+use Rattle.cyclic.specs.Link.{faultyAt, takenAt}
+use Rattle.cyclic.specs.Class2.{made, axis, link, input}
+use Rattle.cyclic.specs.Cycle.{fits, cycleRefusal, linkAfter, axisAfter, inputOf, cycle, cycleInput}
+use Rattle.accuracy.specs.Calls.{Call, rawReading, batching, presetting, cycling}
+use Rattle.accuracy.specs.Ledger.{force, deed, moved}
+use Rattle.accuracy.specs.Claim.{Program, Supposed, off, Entries, readSingly, Accurate, Claim}
+use Rattle.accuracy.specs.Run.{library}
+use Rattle.accuracy.specs.Worthless.{at, always0, turnsAway, claimsHalfRange, ignoresReadings, ignoresPresets, copiesFirst, scalesAfresh, wrapsAtC, cutsPlace, addsRounded, alwaysAbsolute, presetsWhenFaulty, forgetsLink, showsFresh}
+use Rattle.accuracy.specs.Worked.{listing}
+use Rattle.accuracy.proofs.Distance.{is-self, off-is}
+use Rattle.accuracy.proofs.OneUnit.{told}
+use Rattle.accuracy.proofs.Listing.{first, started-there, begun, then, twice, steady, later, after, puts, lent, another}
+
+-- ---- the calls: raw number 4, 6 steps on; two of a batch, 6 steps on each; presets to 0 and by 1; cycles that ask for a preset, of a raw number that
+-- is faulty, or of the last one
+abbrev pass : Call
+pass = batching (4 ∷ 10 ∷ []) (0 ∷ 0 ∷ [])
+
+abbrev asks : ℕ → ℕ → Call
+asks raw v = cycling raw (0x80 ∷ 0 ∷ 0 ∷ v ∷ []) (0 ∷ 0 ∷ 0 ∷ 0 ∷ [])
+
+-- what each program reports after it, computed
+reports : (then turnsAway (rawReading 4) ≡ at 1 1)
+    × (then claimsHalfRange (rawReading 4) ≡ at 1 1)
+    × (then ignoresReadings (rawReading 4) ≡ at 1 1)
+    × (then scalesAfresh (rawReading 4) ≡ at 1 1)
+    × (then wrapsAtC (rawReading 4) ≡ at 1 1)
+    × (then cutsPlace (rawReading 4) ≡ at 2 2)
+    × (then addsRounded (rawReading 4) ≡ at 2 2)
+    × (then ignoresPresets (presetting (pos 0) false) ≡ at 1 1)
+    × (alwaysAbsolute .position (begun alwaysAbsolute) ≡ at 1 1)
+    × (then alwaysAbsolute (presetting (pos 1) true) ≡ at 1 1)
+    × (then presetsWhenFaulty (asks 30 0) ≡ at 0 1)
+    × (then forgetsLink (asks 28 0) ≡ at 0 1)
+    × (twice forgetsLink (asks 28 0) (asks 28 3) ≡ at 3 1)
+    × (then showsFresh (asks 28 0) ≡ at 0 1)
+    × (showsFresh .lent (showsFresh .call (begun showsFresh) (asks 28 0)) (asks 28 3) ≡ 0 ∷ 0 ∷ 0 ∷ 3 ∷ [])
+    × (copiesFirst .lent (begun copiesFirst) pass ≡ 3 ∷ 3 ∷ [])
+    × (then library (rawReading 3) ≡ at 2 2)
+unfolding _modulo_ inRange bigEndian fieldsRefusal refusalOn rulesOf rulesFit inside oriented started difference shorter moveOf moveRefusal movedTo unshifted positionAt travelRefusal rulesOn acceptable axisRefusal unshiftedOf positionOf reported startRefusal start stepRefusal atRaw readRawRefusal readRaw valueRefusal presetRefusal asked presetted preset faultyAt takenAt made axis fits cycleRefusal axisAfter inputOf cycle cycleInput linkAfter link input octets firstRefusal positionsOf batchRefusal batchList
+reports = (refl, refl, refl, refl, refl, refl, refl, refl, refl, refl, refl, refl, refl, refl, refl, refl, refl)
+
+-- the true steps are as supposed
+read-4 : Supposed listing 28 (deed listing first (rawReading 4) .numbers) (steady (pos 6))
+unfolding Supposed moveRefusal difference oriented _modulo_ rulesOf
+read-4 = (record { small = omega arith; times = pos 1; same = refl }, tt)
+
+read-pass : Supposed listing 28 (deed listing first pass .numbers) (steady (pos 6))
+unfolding Supposed refusalIn moveRefusal difference oriented _modulo_ rulesOf
+read-pass = (record { small = omega arith; times = pos 1; same = refl }, (record { small = omega arith; times = pos 0; same = refl }, tt))
+
+-- ---- always position 0: at once
+pub no-always0 : Claim always0 → ⊥
+unfolding Accurate rulesOf oriented
+no-always0 h = let t = told listing first 0 (h listing 8 2 started-there []) in omega arith
+
+-- ---- what no program may report after raw number 4: exact is 10.2, which on the ring of 7 is 3.2
+too-far : (p : Program) (x u : ℕ) → Claim p → then p (rawReading 4) ≡ at x u → x < 3 → ⊥
+unfolding moved moveRefusal difference oriented _modulo_ rulesOf
+too-far p x u h e lt = let t = told listing (later p (rawReading 4) (pos 6)) x (rw e at (after p h (rawReading 4) (pos 6) read-4)) in omega arith
+
+pub no-turnsAway : Claim turnsAway → ⊥
+no-turnsAway h = too-far turnsAway 1 1 h (reports .0) (omega arith)
+
+pub no-claimsHalfRange : Claim claimsHalfRange → ⊥
+no-claimsHalfRange h = too-far claimsHalfRange 1 1 h (reports .1) (omega arith)
+
+pub no-ignoresReadings : Claim ignoresReadings → ⊥
+no-ignoresReadings h = too-far ignoresReadings 1 1 h (reports .2) (omega arith)
+
+pub no-scalesAfresh : Claim scalesAfresh → ⊥
+no-scalesAfresh h = too-far scalesAfresh 1 1 h (reports .3) (omega arith)
+
+pub no-wrapsAtC : Claim wrapsAtC → ⊥
+no-wrapsAtC h = too-far wrapsAtC 1 1 h (reports .4) (omega arith)
+
+pub no-cutsPlace : Claim cutsPlace → ⊥
+no-cutsPlace h = too-far cutsPlace 2 2 h (reports .5) (omega arith)
+
+pub no-addsRounded : Claim addsRounded → ⊥
+no-addsRounded h = too-far addsRounded 2 2 h (reports .6) (omega arith)
+
+-- ---- what a program must report after presets to 0 and by 1
+put-0 : (p : Program) (x u : ℕ) → Claim p → then p (presetting (pos 0) false) ≡ at x u → x ≡ 0
+unfolding Supposed valueRefusal inRange rulesOf _modulo_
+put-0 p x u h e = rw e at (puts p h (presetting (pos 0) false) (pos 0) tt)
+
+put-1 : (p : Program) (x u : ℕ) → Claim p → p .position (begun p) ≡ at 1 1 → then p (presetting (pos 1) true) ≡ at x u → x ≡ 2
+unfolding Supposed readSingly valueRefusal inRange rulesOf _modulo_
+put-1 p x u h s e = rw (e, s) at (puts p h (presetting (pos 1) true) (pos 0) tt)
+
+pub no-ignoresPresets : Claim ignoresPresets → ⊥
+no-ignoresPresets h = omega (arith, put-0 ignoresPresets 1 1 h (reports .7))
+
+pub no-alwaysAbsolute : Claim alwaysAbsolute → ⊥
+no-alwaysAbsolute h = omega (arith, put-1 alwaysAbsolute 1 1 h (reports .8) (reports .9))
+
+-- ---- a faulty cycle: exact is still 8.4, which on the ring of 7 is 1.4
+pub no-presetsWhenFaulty : Claim presetsWhenFaulty → ⊥
+unfolding Supposed moved fits moveRefusal rulesOf oriented
+no-presetsWhenFaulty h =
+    let t = told listing (later presetsWhenFaulty (asks 30 0) (pos 0)) 0 (rw (reports .10) at (after presetsWhenFaulty h (asks 30 0) (pos 0) tt)) in
+    omega arith
+
+-- ---- a preset to 0 is made by a rise, and none by the bit that stays up: exact is still 0
+stands-still : Supposed listing 28 (deed listing first (asks 28 0) .numbers) (steady (pos 0))
+unfolding Supposed fits moveRefusal difference oriented _modulo_ rulesOf
+stands-still = (record { small = omega arith; times = pos 0; same = refl }, tt)
+
+no-second : (p : Program) (u v : ℕ) → Claim p → then p (asks 28 0) ≡ at 0 u → twice p (asks 28 0) (asks 28 3) ≡ at 3 v → ⊥
+unfolding Supposed moved fits bigEndian moveRefusal difference oriented _modulo_ rulesOf linkAfter link
+no-second p u v h e f =
+    let t = another p h (asks 28 0) (pos 0) stands-still (asks 28 3) (pos 0) stands-still .1 in
+    let a = told listing _ 3 (rw (e, f) at t) in
+    omega arith
+
+pub no-forgetsLink : Claim forgetsLink → ⊥
+no-forgetsLink h = no-second forgetsLink 1 1 h (reports .11) (reports .12)
+
+no-input : (p : Program) (u : ℕ) → Claim p → then p (asks 28 0) ≡ at 0 u → p .lent (p .call (begun p) (asks 28 0)) (asks 28 3) ≡ 0 ∷ 0 ∷ 0 ∷ 3 ∷ [] → ⊥
+unfolding Supposed moved fits bigEndian moveRefusal difference oriented _modulo_ rulesOf linkAfter link
+no-input p u h e f =
+    let t = another p h (asks 28 0) (pos 0) stands-still (asks 28 3) (pos 0) stands-still .0 in
+    let a = told listing _ 3 ((rw (e, f) at t) refl .class2 refl) in
+    omega arith
+
+pub no-showsFresh : Claim showsFresh → ⊥
+no-showsFresh h = no-input showsFresh 1 h (reports .13) (reports .14)
+
+-- ---- the second entry of the batch: exact is 12, which on the ring of 7 is 5
+second : (p : Program) → Claim p → p .lent (begun p) pass ≡ 3 ∷ 3 ∷ [] → ⊥
+unfolding Entries moved refusalIn moveRefusal difference oriented _modulo_ rulesOf
+second p h e = let t = told listing _ 3 ((rw e at (lent p h pass (pos 6) read-pass)) .1 .0) in omega arith
+
+pub no-copiesFirst : Claim copiesFirst → ⊥
+no-copiesFirst h = second copiesFirst h (reports .15)
+
+-- ---- half a unit would be too much to claim: after raw number 3, 5 steps on, exact is 9.9, on the ring 2.9, and the library reports 2
+pub no-half : (then library (rawReading 3) ≡ at 2 2)
+    × ((w : ℤ) → 2 * natAbs (off listing (later library (rawReading 3) (pos 5)) 2 w) < force listing .steps .0 → ⊥)
+unfolding rulesOf moved moveRefusal difference oriented _modulo_
+no-half = (
+  reports .16,
+  λ w h.
+      let i = off-is 10 3 7 2 0 (pos 33) (is-self w) in
+      let z = off listing (later library (rawReading 3) (pos 5)) 2 w in
+      omega (arith, i .is, abs-is z, apart z, h),
+)

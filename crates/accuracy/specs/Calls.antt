@@ -1,0 +1,14 @@
+-- The calls on an axis as data: each kind with its own arguments and lent buffers, whatever their lengths and contents.
+-- Assumes nothing.
+use mathlib.Core.Bool.{Bool}
+use mathlib.Core.List.{List}
+use Prim.Native.Nat.{ℕ}
+use lib.IntN.{ℤ}
+
+pub data Call : Type 0 where
+  reading : (step turn : ℕ) → Call
+  rawReading : (raw : ℕ) → Call
+  batching : (raws positions : List ℕ) → Call
+  presetting : (v : ℤ) (relative : Bool) → Call
+  storing : (v : ℤ) → Call
+  cycling : (raw : ℕ) (output input : List ℕ) → Call

@@ -1,0 +1,127 @@
+-- The ledger (document 01, "The distance rule", its second paragraph). It is fed the arguments of the calls, the true steps m beside each
+-- accepted raw number, and one answer, the position just after a preset. It settles by the table and the rules what is accepted and whether a
+-- preset is made: it keeps the last accepted raw number, the held preset value and the link state itself, and never looks at an axis record.
+-- Assumes nothing.
+use mathlib.Core.Bool.{Bool, false, cond, not, _&&_}
+use mathlib.Core.List.{List, [], _∷_}
+use Prim.Native.Nat.{ℕ, suc}
+use lib.Dec.{eqb, ltb}
+use lib.IntN.{ℤ, pos, _+ℤ_}
+use lib.ListN.{length}
+use Rattle.encoder.specs.declared.nameplate.Nameplate.{Nameplate}
+use Rattle.encoder.specs.declared.parameters.Parameters.{Parameters}
+use Rattle.encoder.specs.declared.effect.InForce.{InForce}
+use Rattle.encoder.specs.Refusal.{wrongBuffer, when, _before_, answer}
+use Rattle.encoder.specs.Parameters.{fieldsOf}
+use Rattle.encoder.specs.InForce.{rulesOf}
+use Rattle.sensor.specs.Reading.{rawOf, stepRefusal}
+use Rattle.travel.specs.Travel.{oriented, moveRefusal}
+use Rattle.travel.specs.Batch.{refusalIn}
+use Rattle.axis.specs.Preset.{valueRefusal}
+use Rattle.cyclic.specs.declared.Link.{Link}
+use Rattle.cyclic.specs.Link.{quiet}
+use Rattle.cyclic.specs.Class2 as Class2
+use Rattle.cyclic.specs.Class4 as Class4
+use Rattle.cyclic.specs.Cycle.{four, fits, linkAfter}
+use Rattle.accuracy.specs.Calls.{Call, reading, rawReading, batching, presetting, storing, cycling}
+
+-- what the axis was started with, and what that puts in force
+pub record Device : Type 0 where
+  pub plate : Nameplate
+  pub parameters : Parameters
+
+abbrev pub force : Device → InForce
+force d = rulesOf (d .plate) (fieldsOf (d .parameters))
+
+pub record Ledger : Type 0 where
+  -- p, and g
+  pub base : ℕ
+  pub travel : ℤ
+  -- the last accepted raw number, the held preset value and the link state
+  pub last : ℕ
+  pub stored : ℤ
+  pub link : Link
+
+-- start: p = 0, g = the oriented number
+abbrev pub opened : Device → ℕ → Ledger
+opened d raw = record { base = 0; travel = pos (oriented (force d) raw); last = raw; stored = pos 0; link = quiet }
+
+-- ---- by the table: the number by which a call is refused, 0 where it is taken. There is no row 16: the axis was started, and nothing but its own
+-- calls writes it
+abbrev pub refusalBy : Device → Ledger → Call → ℕ
+refusalBy d l (reading step turn) =
+    stepRefusal (d .plate) step turn before moveRefusal (force d) (l .last) (rawOf (d .plate) step turn)
+refusalBy d l (rawReading raw) = moveRefusal (force d) (l .last) raw
+refusalBy d l (batching raws positions) =
+    when (not (eqb (length raws) (length positions))) wrongBuffer before refusalIn (force d) (l .last) raws
+refusalBy d l (presetting v relative) = valueRefusal (force d) v
+refusalBy d l (storing v) = valueRefusal (force d) v
+refusalBy d l (cycling raw output input) = when (not (fits (d .parameters) output input)) wrongBuffer
+
+-- ---- by the rules: what a call does
+pub data Preset : Type 0 where
+  none : Preset
+  made : (v : ℤ) (relative : Bool) → Preset
+
+-- the raw numbers that it accepts, the preset made after them, the held value and the link that it leaves
+pub record Deed : Type 0 where
+  pub numbers : List ℕ
+  pub preset : Preset
+  pub stored : ℤ
+  pub link : Link
+
+abbrev pub moves : Ledger → List ℕ → Deed
+moves l raws = record { numbers = raws; preset = none; stored = l .stored; link = l .link }
+
+-- a cycle that is not faulty makes a preset on a rise of its bit with the class on: class 2 of a value below L, class 4 of the held preset value
+-- while no error is held
+abbrev pub rises : Device → Ledger → Bool → Bool
+rises d l bit = not (l .link .requested) && bit && force d .enabled
+
+abbrev pub preset2 : Device → Ledger → List ℕ → Preset
+preset2 d l output =
+    cond (rises d l (Class2.asked output) && ltb (Class2.value output) (force d .span .0)) (made (pos (Class2.value output)) false) none
+
+abbrev pub preset4 : Device → Ledger → ℕ → Preset
+preset4 d l word = cond (rises d l (Class4.asked word) && not (Class4.held (l .link) false word)) (made (l .stored) (Class4.relative word)) none
+
+abbrev pub cyclePreset : Device → Ledger → List ℕ → Preset
+cyclePreset d l output = cond (four (d .parameters)) (preset4 d l (Class4.counted output)) (preset2 d l output)
+
+abbrev pub does : Device → Ledger → Call → Deed
+does d l (reading step turn) = moves l (rawOf (d .plate) step turn ∷ [])
+does d l (rawReading raw) = moves l (raw ∷ [])
+does d l (batching raws positions) = moves l raws
+does d l (presetting v relative) = record { numbers = []; preset = made v relative; stored = l .stored; link = l .link }
+does d l (storing v) = record { numbers = []; preset = none; stored = v; link = l .link }
+does d l (cycling raw output input) =
+    let refusal = moveRefusal (force d) (l .last) raw in
+    record {
+      numbers = answer (λ _. []) (raw ∷ []) refusal;
+      preset = answer (λ _. none) (cyclePreset d l output) refusal;
+      stored = l .stored;
+      link = linkAfter (force d) (d .parameters) (l .link) (not (eqb refusal 0)) output;
+    }
+
+-- refused, it does nothing
+abbrev pub deed : Device → Ledger → Call → Deed
+deed d l c = answer (λ _. moves l []) (does d l c) (refusalBy d l c)
+
+-- ---- the entries
+-- raw number accepted: g grows by m. The true steps before the i-th raw number of a call are m i, counted from 0
+unfoldable pub moved : Ledger → List ℕ → (ℕ → ℤ) → Ledger
+moved l [] m = l
+moved l (raw ∷ raws) m =
+    moved (record { base = l .base; travel = l .travel +ℤ m 0; last = raw; stored = l .stored; link = l .link }) raws (λ i. m (suc i))
+
+-- preset made: p = the position just after it, and g = 0; else no change
+abbrev pub put : Preset → Ledger → ℕ → Ledger
+put none l reported = l
+put (made v relative) l reported = record { base = reported; travel = pos 0; last = l .last; stored = l .stored; link = l .link }
+
+-- after a call, with the position reported then: held value and link first, then the raw numbers, then the preset
+abbrev pub keeping : Ledger → ℤ → Link → Ledger
+keeping l stored link = record { base = l .base; travel = l .travel; last = l .last; stored = stored; link = link }
+
+abbrev pub noted : Ledger → Deed → (ℕ → ℤ) → ℕ → Ledger
+noted l e m reported = put (e .preset) (moved (keeping l (e .stored) (e .link)) (e .numbers) m) reported

@@ -1,0 +1,53 @@
+-- What the library makes of the calls: the definitions that its contracts cite. Axis and link record, the latter all 0 at first, go from call to
+-- call as left.
+-- Assumes nothing.
+use mathlib.Core.List.{List, []}
+use Prim.Native.Nat.{ℕ}
+use Rattle.encoder.specs.declared.nameplate.Nameplate.{Nameplate}
+use Rattle.encoder.specs.declared.parameters.Parameters.{Parameters}
+use Rattle.axis.specs.declared.Axis.{Axis}
+use Rattle.axis.specs.declared.Next.{Next}
+use Rattle.axis.specs.Axis.{reported}
+use Rattle.axis.specs.Reading.{start, readRaw, read}
+use Rattle.axis.specs.Preset.{preset, store}
+use Rattle.batch.specs.Batch.{batch, batchList}
+use Rattle.cyclic.specs.declared.Link.{Link}
+use Rattle.cyclic.specs.declared.Cycled.{Cycled}
+use Rattle.cyclic.specs.Link.{quiet}
+use Rattle.cyclic.specs.Cycle.{cycle, cycleInput}
+use Rattle.accuracy.specs.Calls.{Call, reading, rawReading, batching, presetting, storing, cycling}
+use Rattle.accuracy.specs.Claim.{Program}
+
+pub record State : Type 0 where
+  pub axis : Axis
+  pub link : Link
+
+abbrev pub begin : Nameplate → Parameters → ℕ → ℕ → State
+begin n p step turn = record { axis = start n p step turn .axis; link = quiet }
+
+-- a call without the link leaves it
+abbrev pub to : State → Next → State
+to s x = record { axis = x .axis; link = s .link }
+
+abbrev pub both : Cycled → State
+both x = record { axis = x .axis; link = x .link }
+
+abbrev pub yields : State → Call → State
+yields s (reading step turn) = to s (read (s .axis) step turn)
+yields s (rawReading raw) = to s (readRaw (s .axis) raw)
+yields s (batching raws positions) = to s (batch (s .axis) raws positions)
+yields s (presetting v relative) = to s (preset (s .axis) v relative)
+yields s (storing v) = to s (store (s .axis) v)
+yields s (cycling raw output input) = both (cycle (s .axis) (s .link) raw output input)
+
+-- the lent list of positions or input octets
+abbrev pub lentBy : State → Call → List ℕ
+lentBy s (batching raws positions) = batchList (s .axis) raws positions
+lentBy s (cycling raw output input) = cycleInput (s .axis) (s .link) raw output input
+lentBy s (reading step turn) = []
+lentBy s (rawReading raw) = []
+lentBy s (presetting v relative) = []
+lentBy s (storing v) = []
+
+abbrev pub library : Program
+library = record { State = State; start = begin; call = yields; position = λ s. reported (s .axis); lent = lentBy }

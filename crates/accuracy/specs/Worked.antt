@@ -1,0 +1,113 @@
+-- Worked runs that the claim speaks of: calls of every kind, refused ones, wraps, presets and faults among them, for class 2, for class 4, and for class
+-- 4 under block bit 2. Beside each call stands what was worked out from document 01 by hand: the position after it, p and g, and the lent list or octets.
+-- Assumes nothing.
+use mathlib.Core.Bool.{true, false}
+use mathlib.Core.List.{List, [], _∷_}
+use Prim.Native.Nat.{ℕ, zero, suc}
+use lib.IntN.{ℤ, pos, negsuc}
+use Rattle.encoder.specs.Combinations.{plate}
+use Rattle.encoder.specs.declared.parameters.Parameters.the-variants.{Class2, Class4}
+use Rattle.accuracy.specs.Calls.{Call, reading, rawReading, batching, presetting, storing, cycling}
+use Rattle.accuracy.specs.Ledger.{Device, Ledger, deed, noted}
+use Rattle.accuracy.specs.Claim.{Event, number}
+use Rattle.accuracy.specs.Run.{State}
+use Rattle.accuracy.specs.Ours.{ours}
+
+-- R = 10, T = 3, so C = 30; M = 3 and L = 7. Class 2, the axis of document 01's listing, counts with the raw number, class 4 against it
+abbrev pub listing : Device
+listing = record { plate = plate; parameters = Class2 0x0a (record { 0 = 3 }) (record { 0 = 7 }) }
+
+abbrev pub four : ℕ → Device
+four operating = record { plate = plate; parameters = Class4 operating (record { 0 = 3 }) (record { 0 = 7 }) 0 0 }
+
+pub record Line : Type 0 where
+  pub event : Event
+  pub position : ℕ
+  pub base : ℕ
+  pub travel : ℤ
+  pub lent : List ℕ
+
+-- the true steps before the raw numbers of a call, in their order
+abbrev pub steps : List ℤ → ℕ → ℤ
+steps [] i = pos 0
+steps (m ∷ ms) zero = m
+steps (m ∷ ms) (suc i) = steps ms i
+
+-- a call and its true steps; then the position, p and g after it, and the lent list or octets
+abbrev pub line : Call → List ℤ → ℕ → ℕ → ℤ → List ℕ → Line
+line c ms position base travel lent =
+    record { event = record { call = c; steps = steps ms }; position = position; base = base; travel = travel; lent = lent }
+
+abbrev pub o : ℕ → ℕ → ℕ → ℕ → List ℕ
+o a b c d = a ∷ b ∷ c ∷ d ∷ []
+
+abbrev pub o12 : ℕ → ℕ → ℕ → ℕ → List ℕ
+o12 high low first second = 0x02 ∷ 0x00 ∷ high ∷ low ∷ 0 ∷ 0 ∷ 0 ∷ first ∷ 0 ∷ 0 ∷ 0 ∷ second ∷ []
+
+-- started at step 8 of turn 2: raw number 28, position 1
+abbrev pub run2 : List Line
+run2 =
+    -- across the sensor's end, a preset, and back
+    line (reading 4 0) (pos 6 ∷ []) 3 0 (pos 34) []
+    ∷ line (presetting (pos 0) false) [] 0 0 (pos 0) []
+    ∷ line (rawReading 3) (negsuc 0 ∷ []) 6 0 (negsuc 0) []
+    -- exactly half the range away (10), no number of the sensor (9)
+    ∷ line (rawReading 18) [] 6 0 (negsuc 0) []
+    ∷ line (rawReading 30) [] 6 0 (negsuc 0) []
+    -- a batch, one whose second entry lies half the range away (10), one with a list too short (13)
+    ∷ line (batching (5 ∷ 8 ∷ []) (9 ∷ 9 ∷ [])) (pos 2 ∷ pos 3 ∷ []) 1 0 (pos 4) (0 ∷ 1 ∷ [])
+    ∷ line (batching (9 ∷ 24 ∷ []) (9 ∷ 9 ∷ [])) [] 1 0 (pos 4) (9 ∷ 9 ∷ [])
+    ∷ line (batching (9 ∷ []) []) [] 1 0 (pos 4) []
+    -- a held value, a preset of L (11), a relative preset
+    ∷ line (storing (pos 5)) [] 1 0 (pos 4) []
+    ∷ line (presetting (pos 7) true) [] 1 0 (pos 4) []
+    ∷ line (presetting (negsuc 1) true) [] 6 6 (pos 0) []
+    -- cycles: a preset by a rise, and passed over while the bit stays up
+    ∷ line (cycling 9 (o 0x80 0 0 5) (o 0 0 0 0)) (pos 1 ∷ []) 5 5 (pos 0) (o 0 0 0 5)
+    ∷ line (cycling 10 (o 0x80 0 0 3) (o 0 0 0 0)) (pos 1 ∷ []) 6 5 (pos 1) (o 0 0 0 6)
+    -- faulty, faulty with a rise, and that bit still up; a rise with value L; input octets too few (13)
+    ∷ line (cycling 30 (o 0 0 0 0) (o 0 0 0 0)) [] 6 5 (pos 1) (o 0 0 0 6)
+    ∷ line (cycling 30 (o 0x80 0 0 2) (o 0 0 0 0)) [] 6 5 (pos 1) (o 0 0 0 6)
+    ∷ line (cycling 10 (o 0x80 0 0 2) (o 0 0 0 0)) (pos 0 ∷ []) 6 5 (pos 1) (o 0 0 0 6)
+    ∷ line (cycling 10 (o 0 0 0 2) (o 0 0 0 0)) (pos 0 ∷ []) 6 5 (pos 1) (o 0 0 0 6)
+    ∷ line (cycling 10 (o 0x80 0 0 7) (o 0 0 0 0)) (pos 0 ∷ []) 6 5 (pos 1) (o 0 0 0 6)
+    ∷ line (cycling 11 (o 0 0 0 0) (1 ∷ 2 ∷ 3 ∷ [])) [] 6 5 (pos 1) (1 ∷ 2 ∷ 3 ∷ [])
+    ∷ []
+
+-- started at step 2 of turn 0: raw number 2, which is 28 against the raw number, position 1
+abbrev pub run4 : List Line
+run4 =
+    line (storing (pos 2)) [] 1 0 (pos 28) []
+    -- a relative preset by a rise, after the raw number; a faulty cycle
+    ∷ line (cycling 26 (o 4 0 0x18 0) (o12 0 0 0 0)) (pos 6 ∷ []) 5 5 (pos 0) (o12 0x30 0x00 5 5)
+    ∷ line (cycling 30 (o 4 0 0 0) (o12 0 0 0 0)) [] 5 5 (pos 0) (o12 0x80 0x00 5 1)
+    -- acknowledged, with a rise that the held error passes over; the error is gone
+    ∷ line (cycling 26 (o 4 0 0x90 0) (o12 0 0 0 0)) (pos 0 ∷ []) 5 5 (pos 0) (o12 0x88 0x00 5 1)
+    ∷ line (cycling 25 (o 4 0 0 0) (o12 0 0 0 0)) (pos 1 ∷ []) 5 5 (pos 1) (o12 0x20 0x00 5 5)
+    -- an absolute preset; STW2_ENC bit 10 at 0; faulty but parked; input octets too few (13)
+    ∷ line (cycling 25 (o 4 0 0x10 0) (o12 0 0 0 0)) (pos 0 ∷ []) 2 2 (pos 0) (o12 0x30 0x00 2 2)
+    ∷ line (cycling 25 (o 0 0 0x10 0) (o12 0 0 0 0)) (pos 0 ∷ []) 2 2 (pos 0) (o12 0x20 0x00 2 2)
+    ∷ line (cycling 30 (o 4 0 0x40 0) (o12 0 0 0 0)) [] 2 2 (pos 0) (o12 0x60 0x00 2 2)
+    ∷ line (cycling 25 (o 4 0 0 0) (o 0 0 0 0)) [] 2 2 (pos 0) (o 0 0 0 0)
+    ∷ []
+
+-- the same, with block bit 2: G1_XIST1 is the unshifted position
+abbrev pub run4u : List Line
+run4u =
+    line (storing (pos 2)) [] 1 0 (pos 28) []
+    ∷ line (cycling 26 (o 4 0 0x18 0) (o12 0 0 0 0)) (pos 6 ∷ []) 5 5 (pos 0) (o12 0x30 0x00 3 5)
+    ∷ line (cycling 30 (o 4 0 0 0) (o12 0 0 0 0)) [] 5 5 (pos 0) (o12 0x80 0x00 3 1)
+    ∷ []
+
+-- ---- the same, from the definitions
+abbrev pub begun : Device → ℕ → ℕ → State
+begun d step turn = ours .start (d .plate) (d .parameters) step turn
+
+-- the calls, each with what the definitions give
+unfoldable pub traced : Device → State → Ledger → List Line → List Line
+traced d s l [] = []
+traced d s l (x ∷ xs) =
+    let e = x .event in
+    let b = ours .call s (e .call) in
+    let k = noted l (deed d l (e .call)) (e .steps) (number (ours .position b)) in
+    record { event = e; position = number (ours .position b); base = k .base; travel = k .travel; lent = ours .lent s (e .call) } ∷ traced d b k xs

@@ -1,0 +1,134 @@
+-- Programs that document 01 would send back ("Programs we would send back", "Traps on the bench"), each as ours but for one thing. Each breaks the
+-- claim: proofs/Worthless.antt.
+-- Assumes nothing.
+use mathlib.Core.Bool.{Bool, false, cond}
+use mathlib.Core.List.{List}
+use Prim.Native.Nat.{ℕ, _*_, _/_, _%_}
+use lib.IntN.{pos, _+ℤ_, _-ℤ_, _*ℤ_}
+use lib.ListN.{length, getD, replicate}
+use lib.Signed.{quotZ}
+use Rattle.integer.specs.Modulus.{_modulo_}
+use Rattle.travel.specs.Travel.{oriented, moveOf}
+use Rattle.axis.specs.declared.Axis.{Axis}
+use Rattle.axis.specs.declared.Reported.{Reported}
+use Rattle.axis.specs.declared.Reported.the-variants.{At}
+use Rattle.axis.specs.Axis.{rulesOn, unshiftedOf, positionOf, reported}
+use Rattle.axis.specs.Reading.{travelled}
+use Rattle.cyclic.specs.Link.{quiet, faultyAt}
+use Rattle.accuracy.specs.Calls.{Call, reading, rawReading, batching, presetting, storing, cycling}
+use Rattle.accuracy.specs.Claim.{Program}
+use Rattle.accuracy.specs.Run.{State, begin, yields, lentBy}
+
+-- ---- another answer for the position
+abbrev pub at : ℕ → ℕ → Reported
+at position unshifted = At (record { 0 = position }) (record { 0 = unshifted })
+
+abbrev pub answers : (Axis → Reported) → Program
+answers position = record { State = State; start = begin; call = yields; position = λ s. position (s .axis); lent = lentBy }
+
+abbrev pub always0 : Program
+always0 = answers (λ a. at 0 0)
+
+abbrev pub ignoresPresets : Program
+ignoresPresets = answers (λ a. at (unshiftedOf a) (unshiftedOf a))
+
+-- ---- another axis after each call, from the one before it and from ours
+abbrev pub leaves : (Axis → Axis → Axis) → Program
+leaves f =
+    record {
+      State = State;
+      start = begin;
+      call = λ s c. record { axis = f (s .axis) (yields s c .axis); link = yields s c .link };
+      position = λ s. reported (s .axis);
+      lent = lentBy;
+    }
+
+abbrev pub placed : Axis → ℕ → Axis
+placed a place = travelled a (record { place = record { 0 = place }; last = a .travel .last })
+
+abbrev pub turnsAway : Program
+turnsAway = leaves (λ a b. a)
+
+abbrev pub claimsHalfRange : Program
+claimsHalfRange = leaves (λ a b. travelled b (a .travel))
+
+abbrev pub ignoresReadings : Program
+ignoresReadings = leaves (λ a b. placed b (a .travel .place .0))
+
+abbrev pub scalesAfresh : Program
+scalesAfresh = leaves (λ a b. placed b (oriented (rulesOn b) (b .travel .last .0)))
+
+-- keeps the place modulo C, and not modulo R × L
+abbrev pub wrapsAtC : Program
+wrapsAtC = leaves (λ a b. placed b (b .travel .place .0 % rulesOn b .capacity .0))
+
+-- cuts the place to whole units, so that the next move is added to a rounded position
+abbrev pub cutsPlace : Program
+cutsPlace =
+    leaves (λ a b. placed b (b .travel .place .0 * rulesOn b .scale .0 / rulesOn b .steps .0 * rulesOn b .steps .0 / rulesOn b .scale .0))
+
+-- ---- another call in the place of the one that came: other raw numbers of a batch, another kind of preset, another raw number of a cycle
+abbrev pub instead : (List ℕ → List ℕ) → (Bool → Bool) → (ℕ → ℕ) → Call → Call
+instead raws kind number (reading step turn) = reading step turn
+instead raws kind number (rawReading raw) = rawReading raw
+instead raws kind number (batching numbers positions) = batching (raws numbers) positions
+instead raws kind number (presetting v relative) = presetting v (kind relative)
+instead raws kind number (storing v) = storing v
+instead raws kind number (cycling raw output input) = cycling (number raw) output input
+
+abbrev pub takes : (Axis → Call → Call) → Program
+takes f =
+    record {
+      State = State;
+      start = begin;
+      call = λ s c. yields s (f (s .axis) c);
+      position = λ s. reported (s .axis);
+      lent = λ s c. lentBy s (f (s .axis) c);
+    }
+
+-- moves for a pass's first entry, copies that position on
+abbrev pub copiesFirst : Program
+copiesFirst = takes (λ a c. instead (λ raws. replicate (length raws) (getD raws 0 0)) (λ relative. relative) (λ raw. raw) c)
+
+-- takes a relative preset as absolute
+abbrev pub alwaysAbsolute : Program
+alwaysAbsolute = takes (λ a c. instead (λ raws. raws) (λ relative. false) (λ raw. raw) c)
+
+-- takes the last raw number for one that would be refused, and so makes a preset in a faulty cycle
+abbrev pub presetsWhenFaulty : Program
+presetsWhenFaulty =
+    takes (λ a c. instead (λ raws. raws) (λ relative. relative) (λ raw. cond (faultyAt a raw) (a .travel .last .0) raw) c)
+
+-- ---- another link: none goes from cycle to cycle, or the input octets are those of a cycle with a fresh one
+abbrev pub fresh : State → State
+fresh s = record { axis = s .axis; link = quiet }
+
+abbrev pub forgetsLink : Program
+forgetsLink =
+    record { State = State; start = begin; call = λ s c. fresh (yields s c); position = λ s. reported (s .axis); lent = lentBy }
+
+abbrev pub showsFresh : Program
+showsFresh = record { State = State; start = begin; call = yields; position = λ s. reported (s .axis); lent = λ s c. lentBy (fresh s) c }
+
+-- ---- adds a rounded move to the last position, and a preset's change of the offset
+pub record Adding : Type 0 where
+  pub state : State
+  pub position : ℕ
+
+abbrev pub added : Adding → Call → Adding
+added s c =
+    let a = s .state .axis in
+    let b = yields (s .state) c .axis in
+    let f = rulesOn a in
+    let move = quotZ (moveOf f (a .travel .last .0) (b .travel .last .0) *ℤ pos (f .scale .0)) (pos (f .steps .0)) in
+    record { state = yields (s .state) c; position = (pos (s .position) +ℤ move +ℤ (b .offset -ℤ a .offset)) modulo f .span .0 }
+
+abbrev pub addsRounded : Program
+addsRounded =
+    record {
+      State = Adding;
+      start = λ n p step turn. record { state = begin n p step turn; position = positionOf (begin n p step turn .axis) };
+      call = added;
+      position = λ s. at (s .position) (s .position);
+      lent = λ s c. lentBy (s .state) c;
+    }

@@ -1,1 +1,0 @@
-// No code: the calls on an axis as data, and the theorem that each keeps the limits of the record.
