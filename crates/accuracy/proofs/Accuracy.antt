@@ -14,6 +14,7 @@ use Rattle.sensor.proofs.ReadingLaws.{reading-lt}
 use Rattle.travel.specs.Travel.{ring, oriented, started}
 use Rattle.axis.specs.Reading.{fresh, startRefusal, start}
 use Rattle.axis.proofs.AxisLaws.{Limits}
+use Rattle.axis.proofs.PositionLaws.{reported-is}
 use Rattle.axis.proofs.LimitsKept.{begun-kept}
 use Rattle.accuracy.specs.Ledger.{Device, force, Ledger, opened}
 use Rattle.accuracy.specs.Claim.{Event, Accurate, Claim}
@@ -22,7 +23,6 @@ use Rattle.accuracy.specs.Ours.{ours}
 use Rattle.accuracy.proofs.Kept.{kept-start}
 use Rattle.accuracy.proofs.LimitsKept.{call-kept}
 use Rattle.accuracy.proofs.Standing.{Stands, stands-agrees}
-use Rattle.accuracy.proofs.Settled.{reported-is}
 use Rattle.accuracy.proofs.Steps.{done, link-noted, lent}
 
 -- ---- the start

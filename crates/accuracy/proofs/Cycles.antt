@@ -19,8 +19,8 @@ use Rattle.axis.specs.Axis.{rulesOn, positionOf}
 use Rattle.axis.specs.Reading.{next, atRaw, readRaw}
 use Rattle.axis.specs.Preset.{presetted}
 use Rattle.axis.proofs.AxisLaws.{Limits}
+use Rattle.axis.proofs.ReadingLaws.{singly}
 use Rattle.axis.proofs.LimitsKept.{raw-kept}
-use Rattle.batch.proofs.BatchLaws.{singly}
 use Rattle.cyclic.specs.declared.Link.{Link}
 use Rattle.cyclic.specs.Link.{faultyAt, takenAt}
 use Rattle.cyclic.specs.Class2.{asked as asked2, value, made as made2, axis as axis2}
@@ -28,7 +28,7 @@ use Rattle.cyclic.specs.Class4.{counted, asked as asked4, relative, held, made 
 use Rattle.cyclic.specs.Cycle.{four, axisAfter}
 use Rattle.accuracy.specs.Ledger.{Device, force, Ledger, Preset, none, made, rises, preset2, preset4, cyclePreset, keeping, moved, put}
 use Rattle.accuracy.specs.Claim.{Supposed, Puts}
-use Rattle.accuracy.proofs.Standing.{Stands, force-is, stands-moved}
+use Rattle.accuracy.proofs.Standing.{Stands, force-is, class-is, stands-moved}
 use Rattle.accuracy.proofs.Presets.{puts-by, stands-preset}
 
 -- ---- whether a preset is made
@@ -111,9 +111,7 @@ module _ (d : Device) (s : Sound (force d)) (a : Axis) (l : Ledger) (lim : Limit
   after-is : (output : List ℕ) (n : ℕ) → moveRefusal (force d) (l .last) raw ≡ n
       → axisAfter a (l .link) raw output ≡ leaves output (next a n (atRaw a raw) .axis) (not (eqb n 0))
   unfolding axisAfter
-  after-is output n e =
-      let class : four (a .parameters) ≡ four (d .parameters) = rw (k .is) in
-      rw (class, taken-by n e, faulty-by n e)
+  after-is output n e = rw (class-is d a l k, taken-by n e, faulty-by n e)
 
   held-kept : atRaw a raw .stored ≡ l .stored
   unfolding atRaw

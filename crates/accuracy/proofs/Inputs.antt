@@ -21,7 +21,7 @@ use Rattle.cyclic.specs.Class4.{counted, zsw2, zsw, xist1, xist2, input as inpu
 use Rattle.cyclic.specs.Cycle.{four, inputOf}
 use Rattle.accuracy.specs.Ledger.{Device, force, Ledger}
 use Rattle.accuracy.specs.Claim.{Shown}
-use Rattle.accuracy.proofs.Standing.{Stands, stands-agrees}
+use Rattle.accuracy.proofs.Standing.{Stands, class-is, stands-agrees}
 
 position-lt : (a : Axis) → Limits a → positionOf a < 256 ^ 4
 unfolding positionOf positionAt
@@ -41,24 +41,21 @@ unfolding octets
 fourth-back v w x y h = bigEndian-octets 4 y h
 
 module _ (d : Device) (s : Sound (force d)) (a : Axis) (l : Ledger) (j : Link) (lim : Limits a) (k : Stands d a l) (same : j ≡ l .link) (output : List ℕ) where
-  class-is : four (a .parameters) ≡ four (d .parameters)
-  class-is = rw (k .is)
-
   input-two : four (d .parameters) ≡ false → bigEndian (part 1 4 (inputOf j a output)) ≡ positionOf a
   unfolding inputOf input2
-  input-two class = rw (class-is, class) (four-back (positionOf a) (position-lt a lim))
+  input-two class = rw (class-is d a l k, class) (four-back (positionOf a) (position-lt a lim))
 
   input-xist1 : four (d .parameters) ≡ true → bit 2 (fieldsOf (d .parameters) .operating) ≡ false → bigEndian (part 5 8 (inputOf j a output)) ≡ positionOf a
   unfolding inputOf input4
   input-xist1 class plain =
       let shifted : bit 2 (fieldsOf (a .parameters) .operating) ≡ false = rw (k .is) plain in
-      rw (class-is, class, shifted) (third-back zsw2 (zsw j (counted output)) (positionOf a) (xist2 j a) (position-lt a lim))
+      rw (class-is d a l k, class, shifted) (third-back zsw2 (zsw j (counted output)) (positionOf a) (xist2 j a) (position-lt a lim))
 
   input-xist2 : four (d .parameters) ≡ true → l .link .error ≡ false → bigEndian (part 9 12 (inputOf j a output)) ≡ positionOf a
   unfolding inputOf input4
   input-xist2 class well =
       let e : j .error ≡ false = rw same well in
-      rw (class-is, class, e) (fourth-back zsw2 (zsw _ (counted output)) (xist1 a) (positionOf a) (position-lt a lim))
+      rw (class-is d a l k, class, e) (fourth-back zsw2 (zsw _ (counted output)) (xist1 a) (positionOf a) (position-lt a lim))
 
   pub shown : Shown d l (inputOf j a output)
   shown =

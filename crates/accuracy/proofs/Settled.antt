@@ -11,11 +11,10 @@ use Rattle.sensor.specs.Reading.{rawOf}
 use Rattle.travel.specs.Travel.{moveRefusal, travelRefusal}
 use Rattle.travel.proofs.TravelLaws.{read-refusal}
 use Rattle.axis.specs.declared.Axis.{Axis}
-use Rattle.axis.specs.declared.Reported.the-variants.{At}
-use Rattle.axis.specs.Axis.{rulesOn, axisRefusal, unshiftedOf, positionOf, reported}
+use Rattle.axis.specs.Axis.{rulesOn}
 use Rattle.axis.specs.Reading.{next, atRaw, readRawRefusal, readRaw, readRefusal, read}
 use Rattle.axis.specs.Preset.{valueRefusal, presetRefusal, presetted, preset, holding, store}
-use Rattle.axis.proofs.AxisLaws.{Limits, accepts}
+use Rattle.axis.proofs.AxisLaws.{Limits, limits-none}
 use Rattle.batch.specs.Batch.{after, positionsOf, batchRefusal, batch, batchList}
 use Rattle.batch.proofs.BatchLaws.{first-is}
 use Rattle.cyclic.specs.declared.Link.{Link}
@@ -43,37 +42,29 @@ goes s (cycling raw output input) =
     }
 
 -- ---- the refusals
-none-outside : (a : Axis) → Limits a → axisRefusal a ≡ 0
-unfolding axisRefusal
-none-outside a lim = rw (accepts a lim)
-
-pub reported-is : (a : Axis) → Limits a → reported a ≡ At (record { 0 = positionOf a }) (record { 0 = unshiftedOf a })
-unfolding reported
-reported-is a lim = rw (none-outside a lim)
-
 module _ (d : Device) (a : Axis) (l : Ledger) (lim : Limits a) (k : Stands d a l) where
   travel-is : (raw : ℕ) → travelRefusal (rulesOn a) (a .travel) raw ≡ moveRefusal (force d) (l .last) raw
   travel-is raw = read-refusal (rulesOn a) (a .travel) (lim .travel) raw ∙ rw (force-is d a l k) (rw (k .is))
 
   raw-is : (raw : ℕ) → readRawRefusal a raw ≡ refusalBy d l (rawReading raw)
   unfolding readRawRefusal
-  raw-is raw = rw (none-outside a lim) (travel-is raw)
+  raw-is raw = rw (limits-none a lim) (travel-is raw)
 
   reading-is : (step turn : ℕ) → readRefusal a step turn ≡ refusalBy d l (reading step turn)
   unfolding readRefusal
-  reading-is step turn = rw (none-outside a lim, travel-is (rawOf (a .nameplate) step turn)) (rw (k .is))
+  reading-is step turn = rw (limits-none a lim, travel-is (rawOf (a .nameplate) step turn)) (rw (k .is))
 
   batch-is : (raws positions : List ℕ) → batchRefusal a raws positions ≡ refusalBy d l (batching raws positions)
   unfolding batchRefusal
-  batch-is raws positions = rw (none-outside a lim, first-is a raws lim, force-is d a l k) (rw (k .is))
+  batch-is raws positions = rw (limits-none a lim, first-is a raws lim, force-is d a l k) (rw (k .is))
 
   value-is : (v : ℤ) → presetRefusal a v ≡ valueRefusal (force d) v
   unfolding presetRefusal
-  value-is v = rw (none-outside a lim, force-is d a l k)
+  value-is v = rw (limits-none a lim, force-is d a l k)
 
   cycle-is : (output input : List ℕ) → cycleRefusal a output input ≡ when (not (fits (d .parameters) output input)) wrongBuffer
   unfolding cycleRefusal
-  cycle-is output input = rw (none-outside a lim) (rw (k .is))
+  cycle-is output input = rw (limits-none a lim) (rw (k .is))
 
 -- ---- the answers, by the number
 by-next : (s : State) (b : Axis) (n : ℕ) → to s (next (s .axis) n b) ≡ answer (λ (m : ℕ). s) (onward s b) n

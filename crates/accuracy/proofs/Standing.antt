@@ -15,9 +15,10 @@ use Rattle.axis.specs.declared.Next.{Next}
 use Rattle.axis.specs.Axis.{rulesOn, positionOf}
 use Rattle.axis.specs.Reading.{accepted, atRaw, readRaw}
 use Rattle.axis.proofs.AxisLaws.{Limits}
+use Rattle.axis.proofs.ReadingLaws.{singly}
 use Rattle.axis.proofs.LimitsKept.{raw-kept}
 use Rattle.batch.specs.Batch.{after, positionsOf}
-use Rattle.batch.proofs.BatchLaws.{singly}
+use Rattle.cyclic.specs.Cycle.{four}
 use Rattle.accuracy.specs.Ledger.{Device, force, Ledger, moved}
 use Rattle.accuracy.specs.Claim.{Shows, Supposed, Agrees, Entries}
 use Rattle.accuracy.proofs.Kept.{Kept, agrees, kept-move}
@@ -44,6 +45,9 @@ pub record Stands (d : Device) (a : Axis) (l : Ledger) : Type 0 where
 pub force-is : (d : Device) (a : Axis) (l : Ledger) → Stands d a l → rulesOn a ≡ force d
 unfolding rulesOn
 force-is d a l k = rw (k .is)
+
+pub class-is : (d : Device) (a : Axis) (l : Ledger) → Stands d a l → four (a .parameters) ≡ four (d .parameters)
+class-is d a l k = rw (k .is)
 
 module _ (d : Device) (s : Sound (force d)) where
   -- so its position agrees

@@ -18,6 +18,7 @@ use Rattle.axis.specs.Axis.{positionOf, reported}
 use Rattle.axis.specs.Reading.{atRaw, readRaw}
 use Rattle.axis.specs.Preset.{holding}
 use Rattle.axis.proofs.AxisLaws.{Limits}
+use Rattle.axis.proofs.PositionLaws.{reported-is}
 use Rattle.axis.proofs.LimitsKept.{raw-kept}
 use Rattle.batch.specs.Batch.{after, positionsOf, batchList}
 use Rattle.cyclic.specs.Cycle.{axisAfter, inputOf}
@@ -29,7 +30,7 @@ use Rattle.accuracy.specs.Ours.{ours}
 use Rattle.accuracy.proofs.LimitsKept.{call-kept}
 use Rattle.accuracy.proofs.Standing.{Stands, force-is, stands-moved, walked}
 use Rattle.accuracy.proofs.Presets.{puts-by, stands-preset}
-use Rattle.accuracy.proofs.Settled.{reported-is, goes, settled, list-is, input-is}
+use Rattle.accuracy.proofs.Settled.{goes, settled, list-is, input-is}
 use Rattle.accuracy.proofs.Cycles.{axis-by, faulty-is}
 use Rattle.accuracy.proofs.Inputs.{shown}
 

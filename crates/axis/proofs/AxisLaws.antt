@@ -87,6 +87,14 @@ accepts a l =
       lt-ltb _ _ (l .stored),
     )
 
+-- ---- so that 16 does not come up
+pub accepted-none : (a : Axis) → acceptable a ≡ true → axisRefusal a ≡ 0
+unfolding axisRefusal
+accepted-none a e = rw e
+
+pub limits-none : (a : Axis) → Limits a → axisRefusal a ≡ 0
+limits-none a l = accepted-none a (accepts a l)
+
 -- ---- the answer taken apart
 none-outside : (b : Bool) → when (not b) 16 ≡ 0 → b ≡ true
 none-outside true e = refl
@@ -107,8 +115,7 @@ module _ (a : Axis) (e : Effect) where
 
 module _ (a : Axis) (f : InForce) (r : Ready a f) where
   pub stands-none : axisRefusal a ≡ 0
-  unfolding axisRefusal
-  stands-none = rw (r .stands)
+  stands-none = accepted-none a (r .stands)
 
   pub offset-fits : SFits w64 (a .offset)
   offset-fits = fits-abs _ (omega (arith, r .offset, r .travel .sound .span-most))

@@ -24,7 +24,7 @@ use Rattle.axis.specs.declared.Axis.{Axis}
 use Rattle.axis.specs.declared.Reported.the-variants.{At, Refused}
 use Rattle.axis.specs.Axis.{inForceOn, Ready, unshiftedOf, positionOf, reported}
 use Rattle.encoder.proofs.RefusalLaws.{refused-is}
-use Rattle.axis.proofs.AxisLaws.{ready-of, outside-of, stands-none, offset-fits}
+use Rattle.axis.proofs.AxisLaws.{Limits, limits-none, ready-of, outside-of, stands-none, offset-fits}
 
 module _ (a : Axis) (f : InForce) (r : Ready a f) where
   -- ---- the unshifted position: the travel is within its limits, so it has one
@@ -68,5 +68,10 @@ module _ (a : Axis) (e : Effect) where
   pub reported-no : (n : ℕ) → e ≡ NotInForce n → e ≡ inForceOn a → Refused n ≡ reported a
   unfolding reported
   reported-no n h e-is = let i = outside-of a e n h e-is in rw (i .0) (sym (refused-is Refused _ n (i .1)))
+
+-- which is a position on every axis within its limits
+pub reported-is : (a : Axis) → Limits a → reported a ≡ At (record { 0 = positionOf a }) (record { 0 = unshiftedOf a })
+unfolding reported
+reported-is a l = rw (limits-none a l)
 
 pub ruleset positions = (ready-of, unshifted-is, unshifted-lt, unshifted-always, on-span-fits, shifted-is, reported-at, reported-no)

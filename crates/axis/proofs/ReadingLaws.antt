@@ -22,14 +22,14 @@ use Rattle.encoder.proofs.SoundLaws.{taken-sound}
 use Rattle.travel.specs.declared.Travel.{Travel}
 use Rattle.travel.specs.declared.Moved.{Moved}
 use Rattle.travel.specs.declared.Moved.the-variants.{To, Refused as NotMoved}
-use Rattle.travel.specs.Travel.{nowhere, started, movedTo, begun, travelRefusal, moved}
+use Rattle.travel.specs.Travel.{nowhere, started, moveRefusal, movedTo, begun, travelRefusal, moved}
 use Rattle.travel.proofs.SensorLaws.{raw-lt}
 use Rattle.travel.proofs.TravelLaws.{moved-kept, read-refusal, to-taken, to-refused, begun-is}
 use Rattle.axis.specs.declared.Axis.{Axis}
 use Rattle.axis.specs.declared.Next.{Next}
 use Rattle.axis.specs.Axis.{rulesOn, axisRefusal, inForceOn, Ready}
 use Rattle.axis.specs.Reading.{accepted, refused, next, fresh, startRefusal, start, travelled, atRaw, readRawRefusal, readRaw, readRefusal, read}
-use Rattle.axis.proofs.AxisLaws.{Limits, ready-of, outside-of, stands-none}
+use Rattle.axis.proofs.AxisLaws.{Limits, limits-none, ready-of, outside-of, stands-none}
 
 -- ---- the first refusal is the answer
 pub next-first : (a b : Axis) (n m : ℕ) → (n ≡ 0 → ⊥) → refused a n ≡ next a (n before m) b
@@ -70,6 +70,16 @@ travelled-kept a l raw e =
       preset = l .preset;
       stored = l .stored;
     }
+
+-- a raw number by the refusal of its move, on an axis within its limits
+module _ (a : Axis) (l : Limits a) (raw : ℕ) where
+  raw-refusal : readRawRefusal a raw ≡ moveRefusal (rulesOn a) (a .travel .last .0) raw
+  unfolding readRawRefusal
+  raw-refusal = rw (limits-none a l) (read-refusal (rulesOn a) (a .travel) (l .travel) raw)
+
+  pub singly : (n : ℕ) → moveRefusal (rulesOn a) (a .travel .last .0) raw ≡ n → readRaw a raw ≡ next a n (atRaw a raw)
+  unfolding readRaw
+  singly n e = rw (raw-refusal, e)
 
 -- ---- a step and a turn
 module _ (a : Axis) (e : Effect) (s t : ℕ) (x : Next) where

@@ -25,25 +25,16 @@ use Rattle.travel.proofs.TravelLaws.{inside-is, read-refusal, to-taken, to-refu
 use Rattle.axis.specs.declared.Axis.{Axis}
 use Rattle.axis.specs.declared.Next.{Next}
 use Rattle.axis.specs.Axis.{rulesOn, axisRefusal, inForceOn, Ready, positionOf}
-use Rattle.axis.specs.Reading.{accepted, refused, next, travelled, atRaw, readRawRefusal, readRaw}
+use Rattle.axis.specs.Reading.{accepted, refused, travelled, atRaw, readRaw}
 use Rattle.batch.specs.Batch.{firstRefusal, after, positionsOf, batchRefusal, batch, batchList}
-use Rattle.axis.proofs.AxisLaws.{Limits, limits-of, accepts, ready-of, outside-of, stands-none, offset-fits}
-use Rattle.axis.proofs.ReadingLaws.{next-refused, outside-first}
-use Rattle.axis.proofs.ReadingLaws.{travelled-kept}
+use Rattle.axis.proofs.AxisLaws.{Limits, limits-of, ready-of, outside-of, stands-none, offset-fits}
+use Rattle.axis.proofs.ReadingLaws.{next-refused, outside-first, travelled-kept, singly}
 
 -- ---- a single reading of an axis within its limits, by the refusal of its raw number
 abbrev lastOf : Axis → ℕ
 lastOf a = a .travel .last .0
 
 module _ (a : Axis) (l : Limits a) (raw : ℕ) where
-  number-is : readRawRefusal a raw ≡ moveRefusal (rulesOn a) (lastOf a) raw
-  unfolding readRawRefusal axisRefusal
-  number-is = rw (accepts a l) (read-refusal (rulesOn a) (a .travel) (l .travel) raw)
-
-  pub singly : (n : ℕ) → moveRefusal (rulesOn a) (lastOf a) raw ≡ n → readRaw a raw ≡ next a n (atRaw a raw)
-  unfolding readRaw
-  singly n e = rw (number-is, e)
-
   kept : moveRefusal (rulesOn a) (lastOf a) raw ≡ 0 → Limits (atRaw a raw)
   kept e = travelled-kept a l raw (read-refusal (rulesOn a) (a .travel) (l .travel) raw ∙ e)
 

@@ -61,17 +61,21 @@ cycle-is : (a : Axis) (k : Link) (raw : ℕ) (output input : List ℕ) → cycle
 unfolding cycle
 cycle-is a k raw output input e = by-number a _ k _ (cycleRefusal a output input) e
 
--- ---- the theorem
-pub acknowledging : (a : Axis) (k : Link) (raw₁ raw₂ : ℕ) (out₁ out₂ in₁ in₂ : List ℕ) (c d : Cycled)
-    → c ≡ cycle a k raw₁ out₁ in₁ → d ≡ cycle (c .axis) (c .link) raw₂ out₂ in₂
-    → four (a .parameters) ≡ true → c .refusal ≡ 0 → d .refusal ≡ 0
+-- ---- the theorem: a and b are the axis at the first and at the second cycle, so that other calls may stand between the two
+pub acknowledging : (a b : Axis) (k : Link) (raw₁ raw₂ : ℕ) (out₁ out₂ in₁ in₂ : List ℕ) (c d : Cycled)
+    → c ≡ cycle a k raw₁ out₁ in₁ → d ≡ cycle b (c .link) raw₂ out₂ in₂
+    → four (a .parameters) ≡ true → four (b .parameters) ≡ true → c .refusal ≡ 0 → d .refusal ≡ 0
     → bit 10 (stw2 out₁) ≡ true → bit 15 (stw out₁) ≡ true → bit 10 (stw2 out₂) ≡ true → bit 15 (stw out₂) ≡ false
-    → faultyAt (c .axis) raw₂ ≡ false
+    → faultyAt b raw₂ ≡ false
     → d .link .error ≡ false
 unfolding linkAfter link counted
-acknowledging a k raw₁ raw₂ out₁ out₂ in₁ in₂ c d c-is d-is class first second on₁ up on₂ down sound =
+acknowledging a b k raw₁ raw₂ out₁ out₂ in₁ in₂ c d c-is d-is class₁ class₂ first second on₁ up on₂ down sound =
     let c-are = c-is ∙ cycle-is a k raw₁ out₁ in₁ (rw (← c-is) first) in
-    let d-are = d-is ∙ cycle-is (c .axis) (c .link) raw₂ out₂ in₂ (rw (← d-is) second) in
-    let link₁ : c .link ≡ link (rulesOn a) k (faultyAt a raw₁) (stw out₁) = rw (c-are, class, on₁) in
-    let class₂ : four (c .axis .parameters) ≡ true = rw (c-are, after-parameters a k raw₁ out₁ class) class in
+    let d-are = d-is ∙ cycle-is b (c .link) raw₂ out₂ in₂ (rw (← d-is) second) in
+    let link₁ : c .link ≡ link (rulesOn a) k (faultyAt a raw₁) (stw out₁) = rw (c-are, class₁, on₁) in
     rw (d-are, class₂, on₂, sound, link₁) (gone (rulesOn a) k (faultyAt a raw₁) (stw out₁) (stw out₂) up down)
+
+-- with nothing between them the second cycle's axis is the one that the first leaves, and of the same class
+pub at-once : (a : Axis) (k : Link) (raw : ℕ) (output input : List ℕ) → cycle a k raw output input .refusal ≡ 0 → four (a .parameters) ≡ true
+    → four (cycle a k raw output input .axis .parameters) ≡ true
+at-once a k raw output input e class = rw (cycle-is a k raw output input e, after-parameters a k raw output class) class
