@@ -23,6 +23,16 @@ def cut(a, b):
     return a // b if 0 <= a else -(-a // b)
 
 
+class Link:
+    """The link record, all 0 at the start."""
+
+    def __init__(self):
+        self.faulty = self.bit = self.error = self.seen = self.executed = 0
+
+    def shown(self):
+        return f"  link {self.faulty} {self.bit} {self.error} {self.seen} {self.executed}"
+
+
 class Axis:
     """The record: fields may be set to anything from outside."""
 
@@ -31,6 +41,8 @@ class Axis:
         self.life, self.speed = life, speed
         self.place, self.last = 0, 2**64 - 1  # not started
         self.offset = self.preset = self.held = 0
+        self.software, self.serial = [0] * 2, [0] * 10
+        self.link = Link()
 
     # "Class 2 telegram", "Class 4 block" and rows 3 to 7
     def parameters(self):
@@ -166,6 +178,82 @@ class Axis:
         top = d * 60000 if unit == 3 else d * self.m * (1000, 100, 10)[unit]
         return max(-(2**31), min(2**31 - 1, cut(top, self.r * e)))
 
+    # ---- "One cycle"
+    def take(self, raw):
+        """1 where 9 or 10 would refuse the raw number."""
+        try:
+            self.read_raw(raw)
+            return 0
+        except Refused:
+            return 1
+
+    def cycle(self, raw, out, given):
+        """The input octets."""
+        self.standing()
+        if len(out) != 4 or len(given) != (12 if self.four else 4):
+            raise Refused(BUFFER)
+        self.link.faulty = self.take(raw)
+        return self.cycle4(out) if self.four else self.cycle2(int.from_bytes(out, "big"))
+
+    def cycle2(self, word):
+        k, asks, v = self.link, word // 2**31, word % 2**31
+        if asks and not k.bit and self.on and not k.faulty and v < self.span:
+            self.set_preset(v, False)
+        k.bit = asks
+        return self.position().to_bytes(4, "big")
+
+    def cycle4(self, out):
+        k = self.link
+        stw2, stw = int.from_bytes(out[:2], "big"), int.from_bytes(out[2:], "big")
+        if not stw2 & 0x0400:
+            stw = 0
+        ack, park, asks, relative = (1 if stw & 2**n else 0 for n in (15, 14, 12, 11))
+        if k.faulty and not park:
+            k.error = 1
+        if k.seen and not ack:
+            k.error = 1 if k.error and k.faulty else 0
+        k.seen = 1 if k.error and ack else 0
+        if asks and not k.bit and self.on and not k.error and not k.faulty:
+            self.set_preset(self.held, relative == 1)
+            k.executed = 1
+        if not asks:
+            k.executed = 0
+        k.bit = asks
+        zsw = 2**15 * k.error + 2**14 * park + 2**13 * (1 - k.error) + 2**12 * k.executed + 2**11 * k.seen
+        first = self.unshifted() if self.octet & 4 else self.position()
+        second = 1 if k.error else self.position()
+        return b"".join(n.to_bytes(size, "big") for n, size in ((0x0200, 2), (zsw, 2), (first, 4), (second, 4)))
+
+    # ---- "Diagnosis": octet 7 stands first
+    def diagnosis(self, given):
+        self.standing()
+        size = 57 if self.on else 10
+        if len(given) != size:
+            raise Refused(BUFFER)
+        octets = {n: 0 for n in range(7, 64)}
+
+        def put(first, last, n):
+            for k, o in zip(range(first, last + 1), n.to_bytes(last - first + 1, "big", signed=n < 0)):
+                octets[k] = o
+
+        octets[7] = {57: 0x39, 10: 0x0A}[size]
+        octets[8] = self.link.faulty
+        octets[9] = self.octet & 0b1011 if self.four else self.octet
+        octets[10] = 0 if self.t == 1 else 1
+        put(11, 14, self.r)
+        put(15, 16, self.t)
+        put(18, 19, 1)
+        octets[24] = octets[25] = 1
+        octets[26], octets[27] = self.software
+        put(28, 31, 0xFFFFFFFF)
+        put(32, 35, self.offset)
+        put(36, 39, self.preset)
+        put(40, 43, self.m)
+        put(44, 47, self.span)
+        for k, o in enumerate(self.serial):
+            octets[48 + k] = o
+        return bytes(octets[n] for n in range(7, 7 + size))
+
 
 # ---- the vectors
 def axis_line(a):
@@ -186,9 +274,13 @@ def answer(a, call):
         return [f"  refused {n}"]
 
 
+def lent(octets):
+    return " ".join([" "] + [f"{o:02x}" for o in octets])
+
+
 class Script:
     def __init__(self, seed):
-        self.random, self.lines, self.calls = random.Random(seed), [], 0
+        self.random, self.lines, self.calls, self.cycles = random.Random(seed), [], 0, 0
 
     def number(self, a):
         """A raw number: near the last, at the other side of the sensor, anywhere, or past its end."""
@@ -246,6 +338,73 @@ class Script:
         if out is not None:
             self.lines.append(" ".join(["  list"] + [str(p) for p in out]))
 
+    def output(self, a):
+        """Output octets: the bits that matter drawn one by one, and values around L."""
+        pick = lambda p: 1 if self.random.random() < p else 0
+        if self.random.random() < 0.04:
+            return bytes(self.random.randrange(256) for _ in range(self.random.choice([3, 5])))
+        if not a.four:
+            v = self.random.choice([0, 1, a.span - 1, a.span, a.span + 1, self.random.randrange(a.span)])
+            return (pick(0.6) * 2**31 + v % 2**31).to_bytes(4, "big")
+        stw = sum(pick(p) * 2**n for n, p in ((15, 0.4), (14, 0.2), (13, 0.5), (12, 0.6), (11, 0.5)))
+        stw2 = pick(0.85) * 0x0400 + self.random.choice([0, 0, 0xFBFF])
+        return stw2.to_bytes(2, "big") + (stw + self.random.choice([0, 0x07FF])).to_bytes(2, "big")
+
+    def exchange(self, a):
+        raw, out = self.number(a), self.output(a)
+        if self.random.random() < 0.3:
+            raw = a.c if self.random.random() < 0.5 else a.last
+        given = b"\xee" * (12 if a.four else 4)
+        if self.random.random() < 0.04:
+            given = given[1:]
+        self.lines.append(" ".join(["exchange", str(len(given)), str(raw)] + [f"{o:02x}" for o in out]))
+        self.calls += 1
+        self.cycles += 1
+        try:
+            given = a.cycle(raw, out, given)
+            self.lines.append(shown(a))
+        except Refused as n:
+            self.lines.append(f"  refused {n}")
+        self.lines += [a.link.shown(), lent(given)]
+
+    def diagnose(self, a):
+        size = (57 if a.on else 10) + self.random.choice([0, 0, 0, 1, -1])
+        self.lines.append(f"diagnose {size}")
+        self.calls += 1
+        given = b"\xee" * size
+        try:
+            given = a.diagnosis(given)
+            self.lines.append("  done")
+        except Refused as n:
+            self.lines.append(f"  refused {n}")
+        self.lines.append(lent(given))
+
+    def talk(self, a, cycles):
+        """Cycles on one axis, with a held value, a diagnosis, a link or a record that is brought, and other calls between them."""
+        self.begin(a)
+        a.software = [self.random.randrange(256) for _ in range(2)]
+        a.serial = [self.random.randrange(256) for _ in range(10)]
+        self.lines.append(" ".join(["serial  "] + [f"{o:02x}" for o in a.software + a.serial]))
+        for _ in range(cycles):
+            kind = self.random.random()
+            if kind < 0.12:
+                v = self.some_value(a)
+                self.lines.append(f"hold     {v}")
+                self.calls += 1
+                self.lines += answer(a, lambda: a.hold(v))
+            elif kind < 0.17:
+                self.diagnose(a)
+            elif kind < 0.20:
+                k = a.link
+                k.faulty, k.bit, k.error, k.seen, k.executed = (self.random.randrange(2) for _ in range(5))
+                self.lines.append(f"keep     {k.faulty} {k.bit} {k.error} {k.seen} {k.executed}")
+            elif kind < 0.24:
+                self.given(a)
+            elif kind < 0.28:
+                self.call(a)
+            self.exchange(a)
+        self.diagnose(a)
+
     def given(self, a):
         """A record that is brought: within its limits, or past one of them."""
         pick = lambda limit: self.random.choice([0, limit - 1, self.random.randrange(limit), self.random.randrange(limit)])
@@ -260,7 +419,7 @@ class Script:
             setattr(a, past, self.random.choice([a.span, -a.span]))
         self.lines.append(f"given    {a.place} {a.last} {a.offset} {a.preset} {a.held}")
 
-    def run(self, a, calls):
+    def begin(self, a):
         self.lines.append(axis_line(a))
         a.last = 0
         s, t = self.step_turn(a)
@@ -271,6 +430,9 @@ class Script:
             self.lines.append("first    0 0")
             self.calls += 1
             self.lines += answer(a, lambda: a.start(0, 0))
+
+    def run(self, a, calls):
+        self.begin(a)
         for _ in range(calls):
             self.call(a)
 
@@ -302,21 +464,30 @@ def vectors():
     script.lines.append("# Calculated apart by model/axis.py: the largest sensor, R = 65536 and T = 32768")
     for _ in range(10):
         script.run(large(rng), 8)
+    talks(script, random.Random(2))
     return script
+
+
+def talks(script, rng):
+    script.lines.append("# Calculated apart by model/axis.py: cycles of both classes and diagnoses, small sensors and the largest")
+    for n in range(20):
+        a = large(rng) if n % 5 == 4 else small(rng)
+        a.octet |= rng.choice([0, 4])
+        script.talk(a, 16)
 
 
 def main():
     script = vectors()
     if "--check" not in sys.argv[1:]:
         print("\n".join(script.lines))
-        print(f"{script.calls} calls", file=sys.stderr)
+        print(f"{script.calls} calls, {script.cycles} of them cycles", file=sys.stderr)
         return
     folder = os.path.join(os.path.dirname(os.path.abspath(__file__)), os.pardir, "crates", "vectors")
     stdout = open(os.path.join(folder, "stdout"), encoding="utf-8").read().split("\n")
     stdin = open(os.path.join(folder, "stdin"), encoding="utf-8").read().split("\n")
     calculated = stdout[-len(script.lines) - 1 : -1] == script.lines
     asked = [line for line in stdout if not line.startswith("  ")] == stdin
-    print(f"{script.calls} calls: {'as' if calculated else 'NOT as'} calculated; stdin {'is' if asked else 'is NOT'} stdout without the answers")
+    print(f"{script.calls} calls, {script.cycles} of them cycles: {'as' if calculated else 'NOT as'} calculated; stdin {'is' if asked else 'is NOT'} stdout without the answers")
     sys.exit(0 if calculated and asked else 1)
 
 

@@ -21,10 +21,12 @@ use Rattle.axis.specs.Preset.{presetted}
 use Rattle.axis.proofs.AxisLaws.{Limits}
 use Rattle.axis.proofs.ReadingLaws.{singly}
 use Rattle.axis.proofs.LimitsKept.{raw-kept}
-use Rattle.cyclic.specs.declared.Link.{Link}
-use Rattle.cyclic.specs.Link.{faultyAt, takenAt}
-use Rattle.cyclic.specs.Class2.{asked as asked2, value, made as made2, axis as axis2}
-use Rattle.cyclic.specs.Class4.{counted, asked as asked4, relative, held, made as made4, axis as axis4}
+use Rattle.link.specs.declared.Link.{Link}
+use Rattle.cyclic.specs.Raw.{faultyAt, takenAt}
+use Rattle.link.specs.Class2.{asked as asked2, value, made as made2}
+use Rattle.cyclic.specs.Class2.{wordOf, axis as axis2}
+use Rattle.link.specs.Class4.{asked as asked4, relative, held, made as made4}
+use Rattle.cyclic.specs.Class4.{counted, axis as axis4}
 use Rattle.cyclic.specs.Cycle.{four, axisAfter}
 use Rattle.accuracy.specs.Ledger.{Device, force, Ledger, Preset, none, made, rises, preset2, preset4, cyclePreset, keeping, moved, put}
 use Rattle.accuracy.specs.Claim.{Supposed, Puts}
@@ -33,18 +35,18 @@ use Rattle.accuracy.proofs.Presets.{puts-by, stands-preset}
 
 -- ---- whether a preset is made
 module _ (f : InForce) (k : Link) where
-  passed2 : (output : List ℕ) → made2 f k true output ≡ false
+  passed2 : (word : ℕ) → made2 f k true word ≡ false
   unfolding made2
-  passed2 output = rw (and-false (not (k .requested) && asked2 output && f .enabled))
+  passed2 word = rw (and-false (not (k .requested) && asked2 word && f .enabled))
 
   passed4 : (word : ℕ) → made4 f k true word ≡ false
   unfolding made4
   passed4 word = and-false (not (k .requested) && asked4 word && f .enabled && not (held k true word))
 
 module _ (d : Device) (l : Ledger) where
-  same2 : (output : List ℕ) → made2 (force d) (l .link) false output ≡ (rises d l (asked2 output) && ltb (value output) (force d .span .0))
+  same2 : (word : ℕ) → made2 (force d) (l .link) false word ≡ (rises d l (asked2 word) && ltb (value word) (force d .span .0))
   unfolding made2
-  same2 output = rw (and-true (rises d l (asked2 output)))
+  same2 word = rw (and-true (rises d l (asked2 word)))
 
   same4 : (word : ℕ) → made4 (force d) (l .link) false word ≡ (rises d l (asked4 word) && not (held (l .link) false word))
   unfolding made4
@@ -60,11 +62,11 @@ preset-by d a l lim k v relative true = (stands-preset d a l lim k v relative, p
 preset-by d a l lim k v relative false = (k, tt)
 
 module _ (d : Device) (b : Axis) (l l₁ : Ledger) (lim : Limits b) (k : Stands d b l₁) (held-is : b .stored ≡ l .stored) where
-  by-class2 : (output : List ℕ) → Preset-by d b l₁ (axis2 b (l .link) false output) (preset2 d l output)
+  by-class2 : (word : ℕ) → Preset-by d b l₁ (axis2 b (l .link) false word) (preset2 d l word)
   unfolding axis2
-  by-class2 output =
-      let t = rises d l (asked2 output) && ltb (value output) (force d .span .0) in
-      rw (force-is d b l₁ k, same2 d l output) (preset-by d b l₁ lim k (pos (value output)) false t)
+  by-class2 word =
+      let t = rises d l (asked2 word) && ltb (value word) (force d .span .0) in
+      rw (force-is d b l₁ k, same2 d l word) (preset-by d b l₁ lim k (pos (value word)) false t)
 
   by-class4 : (word : ℕ) → Preset-by d b l₁ (axis4 b (l .link) false word) (preset4 d l word)
   unfolding axis4
@@ -73,16 +75,16 @@ module _ (d : Device) (b : Axis) (l l₁ : Ledger) (lim : Limits b) (k : Stands 
       rw (force-is d b l₁ k, same4 d l word, ← held-is) (preset-by d b l₁ lim k (b .stored) (relative word) t)
 
   by-class : (output : List ℕ) (class : Bool)
-      → Preset-by d b l₁ (cond class (axis4 b (l .link) false (counted output)) (axis2 b (l .link) false output))
-      (cond class (preset4 d l (counted output)) (preset2 d l output))
+      → Preset-by d b l₁ (cond class (axis4 b (l .link) false (counted output)) (axis2 b (l .link) false (wordOf output)))
+      (cond class (preset4 d l (counted output)) (preset2 d l (wordOf output)))
   by-class output true = by-class4 (counted output)
-  by-class output false = by-class2 output
+  by-class output false = by-class2 (wordOf output)
 
 -- ---- a faulty cycle leaves the axis
-keeps-axis : (a : Axis) (k : Link) (output : List ℕ) (class : Bool) → cond class (axis4 a k true (counted output)) (axis2 a k true output) ≡ a
+keeps-axis : (a : Axis) (k : Link) (output : List ℕ) (class : Bool) → cond class (axis4 a k true (counted output)) (axis2 a k true (wordOf output)) ≡ a
 unfolding axis2 axis4
 keeps-axis a k output true = rw (passed4 (rulesOn a) k (counted output))
-keeps-axis a k output false = rw (passed2 (rulesOn a) k output)
+keeps-axis a k output false = rw (passed2 (rulesOn a) k (wordOf output))
 
 -- ---- the cycle, by the number by which its raw number would be refused
 next-number : (a b : Axis) (n : ℕ) → next a n b .refusal ≡ n
@@ -106,7 +108,7 @@ module _ (d : Device) (s : Sound (force d)) (a : Axis) (l : Ledger) (lim : Limit
 
   -- what a cycle leaves of the axis, by that number
   abbrev leaves : List ℕ → Axis → Bool → Axis
-  leaves output b faulty = cond (four (d .parameters)) (axis4 b (l .link) faulty (counted output)) (axis2 b (l .link) faulty output)
+  leaves output b faulty = cond (four (d .parameters)) (axis4 b (l .link) faulty (counted output)) (axis2 b (l .link) faulty (wordOf output))
 
   after-is : (output : List ℕ) (n : ℕ) → moveRefusal (force d) (l .last) raw ≡ n
       → axisAfter a (l .link) raw output ≡ leaves output (next a n (atRaw a raw) .axis) (not (eqb n 0))

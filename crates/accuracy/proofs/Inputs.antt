@@ -15,9 +15,10 @@ use Rattle.travel.specs.Travel.{positionAt}
 use Rattle.axis.specs.declared.Axis.{Axis}
 use Rattle.axis.specs.Axis.{rulesOn, positionOf}
 use Rattle.axis.proofs.AxisLaws.{Limits}
-use Rattle.cyclic.specs.declared.Link.{Link}
+use Rattle.link.specs.declared.Link.{Link}
 use Rattle.cyclic.specs.Class2.{input as input2}
-use Rattle.cyclic.specs.Class4.{counted, zsw2, zsw, xist1, xist2, input as input4}
+use Rattle.link.specs.Class4.{zsw}
+use Rattle.cyclic.specs.Class4.{counted, zsw2, xist1, xist2, input as input4}
 use Rattle.cyclic.specs.Cycle.{four, inputOf}
 use Rattle.accuracy.specs.Ledger.{Device, force, Ledger}
 use Rattle.accuracy.specs.Claim.{Shown}

@@ -6,6 +6,7 @@ use mathlib.Core.Bool.{not}
 use mathlib.Core.List.{List}
 use Prim.Native.Nat.{ℕ, zero, suc}
 use lib.IntN.{ℤ}
+use lib.ListN.{length}
 use Rattle.encoder.specs.Refusal.{wrongBuffer, when, answer}
 use Rattle.sensor.specs.Reading.{rawOf}
 use Rattle.travel.specs.Travel.{moveRefusal, travelRefusal}
@@ -17,9 +18,9 @@ use Rattle.axis.specs.Preset.{valueRefusal, presetRefusal, presetted, preset, h
 use Rattle.axis.proofs.AxisLaws.{Limits, limits-none}
 use Rattle.batch.specs.Batch.{after, positionsOf, batchRefusal, batch, batchList}
 use Rattle.batch.proofs.BatchLaws.{first-is}
-use Rattle.cyclic.specs.declared.Link.{Link}
-use Rattle.cyclic.specs.Link.{faultyAt}
-use Rattle.cyclic.specs.Cycle.{fits, cycleRefusal, linkAfter, axisAfter, inputOf, cycled, cycle, cycleInput}
+use Rattle.link.specs.declared.Link.{Link}
+use Rattle.cyclic.specs.Raw.{faultyAt}
+use Rattle.cyclic.specs.Cycle.{four, fits, cycleRefusal, linkAfter, axisAfter, inputOf, cycled, cycle, cycleInput}
 use Rattle.accuracy.specs.Calls.{Call, reading, rawReading, batching, presetting, storing, cycling}
 use Rattle.accuracy.specs.Ledger.{Device, force, Ledger, refusalBy}
 use Rattle.accuracy.specs.Run.{State, to, both, yields}
@@ -62,7 +63,7 @@ module _ (d : Device) (a : Axis) (l : Ledger) (lim : Limits a) (k : Stands d a l
   unfolding presetRefusal
   value-is v = rw (limits-none a lim, force-is d a l k)
 
-  cycle-is : (output input : List ℕ) → cycleRefusal a output input ≡ when (not (fits (d .parameters) output input)) wrongBuffer
+  cycle-is : (output input : List ℕ) → cycleRefusal a output input ≡ when (not (fits (four (d .parameters)) (length output) (length input))) wrongBuffer
   unfolding cycleRefusal
   cycle-is output input = rw (limits-none a lim) (rw (k .is))
 

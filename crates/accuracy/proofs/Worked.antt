@@ -13,9 +13,11 @@ use Rattle.axis.specs.Axis.{rulesOn, acceptable, axisRefusal, unshiftedOf, posi
 use Rattle.axis.specs.Reading.{startRefusal, start, atRaw, readRawRefusal, readRaw, readRefusal, read}
 use Rattle.axis.specs.Preset.{valueRefusal, presetRefusal, asked, presetted, preset, store}
 use Rattle.batch.specs.Batch.{firstRefusal, after, positionsOf, batchRefusal, batch, batchList}
-use Rattle.cyclic.specs.Link.{faultyAt, takenAt}
-use Rattle.cyclic.specs.Class2.{made as made2, axis as axis2, link as link2, input as input2}
-use Rattle.cyclic.specs.Class4.{counted, held, made as made4, axis as axis4, link as link4, zsw, input as input4}
+use Rattle.cyclic.specs.Raw.{faultyAt, takenAt}
+use Rattle.link.specs.Class2.{made as made2, link as link2}
+use Rattle.cyclic.specs.Class2.{axis as axis2, input as input2}
+use Rattle.link.specs.Class4.{held, made as made4, link as link4, zsw}
+use Rattle.cyclic.specs.Class4.{counted, axis as axis4, input as input4}
 use Rattle.cyclic.specs.Cycle.{fits, cycleRefusal, linkAfter, axisAfter, inputOf, cycle, cycleInput}
 use Rattle.accuracy.specs.Ledger.{opened, moved}
 use Rattle.accuracy.specs.Worked.{listing, four, run2, run4, run4u, begun, traced}

@@ -21,8 +21,9 @@ use Rattle.axis.specs.Axis.{rulesOn, acceptable, axisRefusal, unshiftedOf, posi
 use Rattle.axis.specs.Reading.{startRefusal, start, atRaw, readRawRefusal, readRaw}
 use Rattle.axis.specs.Preset.{valueRefusal, presetRefusal, asked, presetted, preset}
 use Rattle.batch.specs.Batch.{firstRefusal, positionsOf, batchRefusal, batchList}
-use Rattle.cyclic.specs.Link.{faultyAt, takenAt}
-use Rattle.cyclic.specs.Class2.{made, axis, link, input}
+use Rattle.cyclic.specs.Raw.{faultyAt, takenAt}
+use Rattle.link.specs.Class2.{made, link}
+use Rattle.cyclic.specs.Class2.{axis, input}
 use Rattle.cyclic.specs.Cycle.{fits, cycleRefusal, linkAfter, axisAfter, inputOf, cycle, cycleInput}
 use Rattle.accuracy.specs.Calls.{Call, rawReading, batching, presetting, cycling}
 use Rattle.accuracy.specs.Ledger.{force, deed, moved}

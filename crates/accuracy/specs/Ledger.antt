@@ -18,10 +18,12 @@ use Rattle.sensor.specs.Reading.{rawOf, stepRefusal}
 use Rattle.travel.specs.Travel.{oriented, moveRefusal}
 use Rattle.travel.specs.Batch.{refusalIn}
 use Rattle.axis.specs.Preset.{valueRefusal}
-use Rattle.cyclic.specs.declared.Link.{Link}
-use Rattle.cyclic.specs.Link.{quiet}
-use Rattle.cyclic.specs.Class2 as Class2
-use Rattle.cyclic.specs.Class4 as Class4
+use Rattle.link.specs.declared.Link.{Link}
+use Rattle.link.specs.Link.{quiet}
+use Rattle.link.specs.Class2 as Class2
+use Rattle.link.specs.Class4 as Class4
+use Rattle.cyclic.specs.Class2.{wordOf}
+use Rattle.cyclic.specs.Class4.{counted}
 use Rattle.cyclic.specs.Cycle.{four, fits, linkAfter}
 use Rattle.accuracy.specs.Calls.{Call, reading, rawReading, batching, presetting, storing, cycling}
 
@@ -56,7 +58,7 @@ refusalBy d l (batching raws positions) =
     when (not (eqb (length raws) (length positions))) wrongBuffer before refusalIn (force d) (l .last) raws
 refusalBy d l (presetting v relative) = valueRefusal (force d) v
 refusalBy d l (storing v) = valueRefusal (force d) v
-refusalBy d l (cycling raw output input) = when (not (fits (d .parameters) output input)) wrongBuffer
+refusalBy d l (cycling raw output input) = when (not (fits (four (d .parameters)) (length output) (length input))) wrongBuffer
 
 -- ---- by the rules: what a call does
 pub data Preset : Type 0 where
@@ -78,15 +80,14 @@ moves l raws = record { numbers = raws; preset = none; stored = l .stored; link 
 abbrev pub rises : Device → Ledger → Bool → Bool
 rises d l bit = not (l .link .requested) && bit && force d .enabled
 
-abbrev pub preset2 : Device → Ledger → List ℕ → Preset
-preset2 d l output =
-    cond (rises d l (Class2.asked output) && ltb (Class2.value output) (force d .span .0)) (made (pos (Class2.value output)) false) none
+abbrev pub preset2 : Device → Ledger → ℕ → Preset
+preset2 d l word = cond (rises d l (Class2.asked word) && ltb (Class2.value word) (force d .span .0)) (made (pos (Class2.value word)) false) none
 
 abbrev pub preset4 : Device → Ledger → ℕ → Preset
 preset4 d l word = cond (rises d l (Class4.asked word) && not (Class4.held (l .link) false word)) (made (l .stored) (Class4.relative word)) none
 
 abbrev pub cyclePreset : Device → Ledger → List ℕ → Preset
-cyclePreset d l output = cond (four (d .parameters)) (preset4 d l (Class4.counted output)) (preset2 d l output)
+cyclePreset d l output = cond (four (d .parameters)) (preset4 d l (counted output)) (preset2 d l (wordOf output))
 
 abbrev pub does : Device → Ledger → Call → Deed
 does d l (reading step turn) = moves l (rawOf (d .plate) step turn ∷ [])

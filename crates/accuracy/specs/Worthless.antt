@@ -14,7 +14,8 @@ use Rattle.axis.specs.declared.Reported.{Reported}
 use Rattle.axis.specs.declared.Reported.the-variants.{At}
 use Rattle.axis.specs.Axis.{rulesOn, unshiftedOf, positionOf, reported}
 use Rattle.axis.specs.Reading.{travelled}
-use Rattle.cyclic.specs.Link.{quiet, faultyAt}
+use Rattle.link.specs.Link.{quiet}
+use Rattle.cyclic.specs.Raw.{faultyAt}
 use Rattle.accuracy.specs.Calls.{Call, reading, rawReading, batching, presetting, storing, cycling}
 use Rattle.accuracy.specs.Claim.{Program}
 use Rattle.accuracy.specs.Run.{State, begin, yields, lentBy}

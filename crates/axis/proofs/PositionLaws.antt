@@ -21,10 +21,11 @@ use Rattle.travel.specs.declared.Scaled.the-variants.{At as ScaledAt, Refused a
 use Rattle.travel.specs.Travel.{unshifted, positionAt, scaled}
 use Rattle.travel.proofs.TravelLaws.{scaled-is}
 use Rattle.axis.specs.declared.Axis.{Axis}
+use Rattle.axis.specs.declared.Reported.{Reported}
 use Rattle.axis.specs.declared.Reported.the-variants.{At, Refused}
 use Rattle.axis.specs.Axis.{inForceOn, Ready, unshiftedOf, positionOf, reported}
 use Rattle.encoder.proofs.RefusalLaws.{refused-is}
-use Rattle.axis.proofs.AxisLaws.{Limits, limits-none, ready-of, outside-of, stands-none, offset-fits}
+use Rattle.axis.proofs.AxisLaws.{Limits, limits-of, limits-none, ready-of, outside-of, stands-none, offset-fits}
 
 module _ (a : Axis) (f : InForce) (r : Ready a f) where
   -- ---- the unshifted position: the travel is within its limits, so it has one
@@ -73,5 +74,18 @@ module _ (a : Axis) (e : Effect) where
 pub reported-is : (a : Axis) → Limits a → reported a ≡ At (record { 0 = positionOf a }) (record { 0 = unshiftedOf a })
 unfolding reported
 reported-is a l = rw (limits-none a l)
+
+module _ (a : Axis) (f : InForce) (r : Ready a f) (e : Reported) where
+  ready-at : e ≡ reported a → e ≡ At (record { 0 = positionOf a }) (record { 0 = unshiftedOf a })
+  ready-at e-is = e-is ∙ reported-is a (limits-of a (r .stands))
+
+  pub position-is : (p u : Units) → e ≡ At p u → e ≡ reported a → (p .0 ≡ positionOf a) × (u .0 ≡ unshiftedOf a)
+  position-is p u h e-is = let s : At p u ≡ At (record { 0 = positionOf a }) (record { 0 = unshiftedOf a }) = sym h ∙ ready-at e-is in (cc, cc)
+
+  pub position-always : (n : ℕ) → e ≡ Refused n → e ≡ reported a → ⊥
+  position-always n h e-is =
+      let s : Refused n ≡ At (record { 0 = positionOf a }) (record { 0 = unshiftedOf a }) = sym h ∙ ready-at e-is in
+      let z : _≡_ {A = ℕ} 0 1 = cc in
+      absurd (omega arith)
 
 pub ruleset positions = (ready-of, unshifted-is, unshifted-lt, unshifted-always, on-span-fits, shifted-is, reported-at, reported-no)

@@ -4,7 +4,8 @@ use mathlib.Core.Path.{_≡_, sym, _∙_}
 use mathlib.Core.Bool.{Bool, true, false, not}
 use Prim.Native.Nat.{ℕ, _<_}
 use native.Mathlib.Omega.{arith}
-use lib.IntN.{ℤ, pos, _+ℤ_, _-ℤ_, +ℤ-idl}
+use lib.IntN.{ℤ, pos, natAbs, _+ℤ_, _-ℤ_, +ℤ-idl}
+use borrow.Author.Tests.{lt-ltb}
 use mir.Syntax.{w64}
 use mir.Val.{SFits, toZ, ofZ}
 use Rattle.integer.proofs.Size.{reads, diff-fits, diff-reads}
@@ -17,7 +18,7 @@ use Rattle.axis.specs.declared.Next.{Next}
 use Rattle.axis.specs.Axis.{rulesOn, inForceOn, Ready, unshiftedOf, positionOf}
 use Rattle.axis.specs.Reading.{accepted, refused}
 use Rattle.axis.specs.Preset.{valueRefusal, presetRefusal, asked, shifted, presetted, preset, holding, store}
-use Rattle.axis.proofs.AxisLaws.{ready-of, stands-none}
+use Rattle.axis.proofs.AxisLaws.{Limits, limits-none, ready-of, stands-none}
 use Rattle.axis.proofs.PositionLaws.{on-span, on-span-lt, on-span-fits}
 use Rattle.axis.proofs.ReadingLaws.{next-refused, outside-first}
 
@@ -87,6 +88,12 @@ module _ (a : Axis) (f : InForce) (r : Ready a f) (v : ℤ) (fits : SFits w64 v)
 
 pub offset-new : (a : Axis) (f : InForce) (to u : ℕ) → Ready a f → to < f .span .0 → u < f .span .0 → SFits w64 (toZ w64 to -ℤ toZ w64 u)
 offset-new a f to u r to-lt u-lt = let m = r .travel .sound .span-most in diff-fits to u (omega arith) (omega arith)
+
+-- ---- a preset that nothing refuses
+pub preset-taken : (a : Axis) → Limits a → (v : ℤ) (relative : Bool) → rulesOn a .enabled ≡ true → natAbs v < rulesOn a .span .0
+    → preset a v relative ≡ accepted (presetted a v relative)
+unfolding preset presetRefusal valueRefusal inRange
+preset-taken a l v relative on h = rw (limits-none a l, on, lt-ltb _ _ h)
 
 -- ---- the value as the machine reads it back
 module _ (a : Axis) (v : ℤ) (fits : SFits w64 v) (x : Next) where

@@ -6,7 +6,6 @@ mod reading;
 
 ghost use mathlib.Core.Path.{_≡_};
 ghost use Rattle.axis.specs.Axis.{keeps, inForceOn};
-ghost use Rattle.axis.specs.Reading.{accepted, refused};
 use encoder::effect::Effect;
 use encoder::effect::InForce;
 use encoder::effect::in_force;
@@ -69,25 +68,5 @@ impl Axis {
         let preset = between(self.preset, span);
         let stored = between(self.stored, span);
         travel.inside(rules) & offset & preset & stored
-    }
-
-    // The next axis, of a call that was taken.
-    fn accepted(self) -> Next
-        ensures { λ r. ⌜ r ≡ accepted self ⌝ }
-    {
-        Next {
-            axis: self,
-            refusal: 0,
-        }
-    }
-
-    // The axis as it was, and the number of the refusal.
-    fn refused(self, n: u8) -> Next
-        ensures { λ r. ⌜ r ≡ refused self n ⌝ }
-    {
-        Next {
-            axis: self,
-            refusal: n,
-        }
     }
 }

@@ -16,9 +16,10 @@ impl Axis {
     pub fn preset(self, value: i64, relative: bool) -> Next
         ensures { λ r. ⌜ r ≡ preset self value relative ⌝ }
     {
-        match self.rules() {
-            Effect::Taken(rules) => self.shift(rules, value, relative),
-            Effect::Refused(n) => self.refused(n),
+        let axis = self;
+        match axis.rules() {
+            Effect::Taken(rules) => axis.shift(rules, value, relative),
+            Effect::Refused(n) => Next { axis, refusal: n },
         }
     }
 
@@ -26,9 +27,10 @@ impl Axis {
     pub fn store(self, value: i64) -> Next
         ensures { λ r. ⌜ r ≡ store self value ⌝ }
     {
-        match self.rules() {
-            Effect::Taken(rules) => self.hold(rules, value),
-            Effect::Refused(n) => self.refused(n),
+        let axis = self;
+        match axis.rules() {
+            Effect::Taken(rules) => axis.hold(rules, value),
+            Effect::Refused(n) => Next { axis, refusal: n },
         }
     }
 
@@ -37,16 +39,16 @@ impl Axis {
         requires { ⌜ Ready self rules ⌝ }
         ensures { λ r. ⌜ r ≡ preset self value relative ⌝ }
     {
+        let mut axis = self;
         let n = value_refusal(rules, value);
         if n != 0 {
-            return self.refused(n);
+            return Next { axis, refusal: n };
         }
-        let to = self.asked(rules, value, relative);
-        let unshifted = self.unshifted(rules);
-        let mut axis = self;
+        let to = axis.asked(rules, value, relative);
+        let unshifted = axis.unshifted(rules);
         axis.offset = to.0 as i64 - unshifted.0 as i64;
         axis.preset = value;
-        axis.accepted()
+        Next { axis, refusal: 0 }
     }
 
     // The position that a preset asks for.
@@ -67,13 +69,13 @@ impl Axis {
         requires { ⌜ Ready self rules ⌝ }
         ensures { λ r. ⌜ r ≡ store self value ⌝ }
     {
+        let mut axis = self;
         let n = value_refusal(rules, value);
         if n != 0 {
-            return self.refused(n);
+            return Next { axis, refusal: n };
         }
-        let mut axis = self;
         axis.stored = value;
-        axis.accepted()
+        Next { axis, refusal: 0 }
     }
 }
 

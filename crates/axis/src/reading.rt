@@ -39,7 +39,10 @@ impl Axis {
         ensures { λ r. ⌜ r ≡ accepted (fresh plate parameters (started rules raw)) ⌝ }
     {
         match Travel::begin(rules, raw) {
-            Moved::To(travel) => Axis::fresh(plate, parameters, travel).accepted(),
+            Moved::To(travel) => Next {
+                axis: Axis::fresh(plate, parameters, travel),
+                refusal: 0,
+            },
             // never: the raw number is one of the sensor's
             Moved::Refused(n) => Axis::unstarted(plate, parameters, n),
         }
@@ -49,7 +52,10 @@ impl Axis {
     fn unstarted(plate: Nameplate, parameters: Parameters, n: u8) -> Next
         ensures { λ r. ⌜ r ≡ refused (fresh plate parameters nowhere) n ⌝ }
     {
-        Axis::fresh(plate, parameters, Travel::NOWHERE).refused(n)
+        Next {
+            axis: Axis::fresh(plate, parameters, Travel::NOWHERE),
+            refusal: n,
+        }
     }
 
     // An axis without offset and presets.
@@ -70,13 +76,14 @@ impl Axis {
     pub fn read(self, step: Steps, turn: Turns) -> Next
         ensures { λ r. ⌜ r ≡ read self (step .0) (turn .0) ⌝ }
     {
-        let plate = self.nameplate;
-        match self.rules() {
+        let axis = self;
+        let plate = axis.nameplate;
+        match axis.rules() {
             Effect::Taken(rules) => match raw_number(plate, step, turn) {
-                Reading::Number(raw) => self.take(rules, raw),
-                Reading::Refused(n) => self.refused(n),
+                Reading::Number(raw) => axis.take(rules, raw),
+                Reading::Refused(n) => Next { axis, refusal: n },
             },
-            Effect::Refused(n) => self.refused(n),
+            Effect::Refused(n) => Next { axis, refusal: n },
         }
     }
 
@@ -84,9 +91,10 @@ impl Axis {
     pub fn read_raw(self, raw: u32) -> Next
         ensures { λ r. ⌜ r ≡ readRaw self raw ⌝ }
     {
-        match self.rules() {
-            Effect::Taken(rules) => self.take(rules, raw),
-            Effect::Refused(n) => self.refused(n),
+        let axis = self;
+        match axis.rules() {
+            Effect::Taken(rules) => axis.take(rules, raw),
+            Effect::Refused(n) => Next { axis, refusal: n },
         }
     }
 
@@ -96,13 +104,13 @@ impl Axis {
         ensures { λ r. ⌜ r ≡ readRaw self raw ⌝ }
     {
         let travel = self.travel;
+        let mut axis = self;
         match travel.moved(rules, raw) {
             Moved::To(here) => {
-                let mut axis = self;
                 axis.travel = here;
-                axis.accepted()
+                Next { axis, refusal: 0 }
             }
-            Moved::Refused(n) => self.refused(n),
+            Moved::Refused(n) => Next { axis, refusal: n },
         }
     }
 }

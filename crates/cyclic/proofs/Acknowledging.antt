@@ -1,54 +1,22 @@
 -- Acknowledging (document 01, "One cycle", its last paragraph): a held error is gone by the second of two cycles, if bit 15 is 1 in the first
--- and 0 in the second, STW2_ENC bit 10 is 1 in both and the second is not faulty. By whether the first cycle leaves an error held.
+-- and 0 in the second, STW2_ENC bit 10 is 1 in both and the second is not faulty. The link alone decides it, by what the crate link shows.
 -- Assumes nothing.
 use mathlib.Core.Path.{_≡_, refl, _∙_}
-use mathlib.Core.Bool.{Bool, true, false, cond, and-true}
+use mathlib.Core.Bool.{true, false}
 use mathlib.Core.List.{List}
 use Prim.Native.Nat.{ℕ, zero, suc}
 use native.Mathlib.Omega.{arith}
-use lib.IntN.{ℤ}
 use Rattle.integer.specs.Bits.{bit}
-use Rattle.encoder.specs.declared.effect.InForce.{InForce}
 use Rattle.axis.specs.declared.Axis.{Axis}
 use Rattle.axis.specs.Axis.{rulesOn}
-use Rattle.axis.specs.Reading.{next, atRaw, readRaw, readRawRefusal}
-use Rattle.axis.specs.Preset.{presetted}
-use Rattle.cyclic.specs.declared.Link.{Link}
+use Rattle.link.specs.declared.Link.{Link}
+use Rattle.link.specs.Class4.{link}
+use Rattle.link.proofs.Acknowledging.{gone}
 use Rattle.cyclic.specs.declared.Cycled.{Cycled}
-use Rattle.cyclic.specs.Link.{faultyAt, takenAt}
-use Rattle.cyclic.specs.Class4.{stw2, stw, counted, acknowledges, relative, held, made, axis, link}
+use Rattle.cyclic.specs.Raw.{faultyAt}
+use Rattle.cyclic.specs.Class4.{stw2, stw, counted}
 use Rattle.cyclic.specs.Cycle.{four, cycleRefusal, linkAfter, axisAfter, cycled, cycle}
-
--- ---- the error: where one is held under bit 15, it is seen to be acknowledged
-gone-by : (j : Link) (word : ℕ) (h : Bool) → j .error ≡ h → j .acknowledged ≡ h → acknowledges word ≡ false → held j false word ≡ false
-unfolding held
-gone-by j word true e s down = rw (e, s, down)
-gone-by j word false e s down = rw (e, s)
-
-gone : (f : InForce) (k : Link) (faulty : Bool) (w v : ℕ) → acknowledges w ≡ true → acknowledges v ≡ false → held (link f k faulty w) false v ≡ false
-unfolding link
-gone f k faulty w v up down = gone-by (link f k faulty w) v (held k faulty w) refl (rw up (and-true (held k faulty w))) down
-
--- ---- a cycle keeps the parameters, and so its class
-taken-parameters : (a : Axis) (raw : ℕ) → takenAt a raw .parameters ≡ a .parameters
-unfolding takenAt readRaw atRaw
-taken-parameters a raw = by (readRawRefusal a raw)
-  where
-    by : (n : ℕ) → next a n (atRaw a raw) .axis .parameters ≡ a .parameters
-    by zero = refl
-    by (suc n) = refl
-
-preset-parameters : (a : Axis) (v : ℤ) (relative made : Bool) → cond made (presetted a v relative) a .parameters ≡ a .parameters
-unfolding presetted
-preset-parameters a v relative true = refl
-preset-parameters a v relative false = refl
-
-after-parameters : (a : Axis) (k : Link) (raw : ℕ) (output : List ℕ) → four (a .parameters) ≡ true → axisAfter a k raw output .parameters ≡ a .parameters
-unfolding axisAfter axis
-after-parameters a k raw output class =
-    let b = takenAt a raw in
-    let word = counted output in
-    rw class (preset-parameters b (b .stored) (relative word) (made (rulesOn b) k (faultyAt a raw) word) ∙ taken-parameters a raw)
+use Rattle.cyclic.proofs.ReadyLaws.{after-same}
 
 -- ---- a cycle that is not refused leaves these
 by-number : (a b : Axis) (k j : Link) (n : ℕ) → cycled a k b j n .refusal ≡ 0 → cycled a k b j n ≡ record { axis = b; link = j; refusal = 0 }
@@ -78,4 +46,4 @@ acknowledging a b k raw₁ raw₂ out₁ out₂ in₁ in₂ c d c-is d-is class�
 -- with nothing between them the second cycle's axis is the one that the first leaves, and of the same class
 pub at-once : (a : Axis) (k : Link) (raw : ℕ) (output input : List ℕ) → cycle a k raw output input .refusal ≡ 0 → four (a .parameters) ≡ true
     → four (cycle a k raw output input .axis .parameters) ≡ true
-at-once a k raw output input e class = rw (cycle-is a k raw output input e, after-parameters a k raw output class) class
+at-once a k raw output input e class = rw (cycle-is a k raw output input e, after-same a k raw output .1) class

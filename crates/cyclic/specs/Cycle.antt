@@ -12,9 +12,11 @@ use Rattle.encoder.specs.Refusal.{wrongBuffer, when, _before_, answer}
 use Rattle.encoder.specs.Parameters.{fieldsOf}
 use Rattle.axis.specs.declared.Axis.{Axis}
 use Rattle.axis.specs.Axis.{rulesOn, axisRefusal}
-use Rattle.cyclic.specs.declared.Link.{Link}
+use Rattle.link.specs.declared.Link.{Link}
+use Rattle.link.specs.Class2 as Link2
+use Rattle.link.specs.Class4 as Link4
 use Rattle.cyclic.specs.declared.Cycled.{Cycled}
-use Rattle.cyclic.specs.Link.{faultyAt, takenAt}
+use Rattle.cyclic.specs.Raw.{faultyAt, takenAt}
 use Rattle.cyclic.specs.Class2 as Class2
 use Rattle.cyclic.specs.Class4 as Class4
 
@@ -23,30 +25,36 @@ abbrev pub four : Parameters → Bool
 four p = fieldsOf p .four
 
 -- 4 octets out; 4 in, or 12 in telegram 81
-unfoldable pub fits : Parameters → List ℕ → List ℕ → Bool
-fits p output input = eqb (length output) 4 && eqb (length input) (cond (four p) 12 4)
+unfoldable pub fits : Bool → ℕ → ℕ → Bool
+fits class output input = eqb output 4 && eqb input (cond class 12 4)
 
 -- 16, 13
 unfoldable pub cycleRefusal : Axis → List ℕ → List ℕ → ℕ
-cycleRefusal a output input = axisRefusal a before when (not (fits (a .parameters) output input)) wrongBuffer
+cycleRefusal a output input = axisRefusal a before when (not (fits (four (a .parameters)) (length output) (length input))) wrongBuffer
 
 -- the link that a cycle leaves, by what is in force
 unfoldable pub linkAfter : InForce → Parameters → Link → Bool → List ℕ → Link
-linkAfter f p k faulty output = cond (four p) (Class4.link f k faulty (Class4.counted output)) (Class2.link k faulty output)
+linkAfter f p k faulty output = cond (four p) (Link4.link f k faulty (Class4.counted output)) (Link2.link k faulty (Class2.wordOf output))
 
 -- the axis that it leaves: the raw number first, and then the preset, if one is made
 unfoldable pub axisAfter : Axis → Link → ℕ → List ℕ → Axis
 axisAfter a k raw output =
     cond (four (a .parameters)) (Class4.axis (takenAt a raw) k (faultyAt a raw) (Class4.counted output))
-    (Class2.axis (takenAt a raw) k (faultyAt a raw) output)
+    (Class2.axis (takenAt a raw) k (faultyAt a raw) (Class2.wordOf output))
 
 -- the input, by the link and the axis that it leaves
 unfoldable pub inputOf : Link → Axis → List ℕ → List ℕ
 inputOf k a output = cond (four (a .parameters)) (Class4.input k (Class4.counted output) a) (Class2.input a)
 
 -- the answer by the number of its refusal: refused, axis and link are kept
+abbrev pub done : Axis → Link → Cycled
+done a k = record { axis = a; link = k; refusal = 0 }
+
+abbrev pub refused : Axis → Link → ℕ → Cycled
+refused a k n = record { axis = a; link = k; refusal = n }
+
 abbrev pub cycled : Axis → Link → Axis → Link → ℕ → Cycled
-cycled a k b j n = answer (λ m. record { axis = a; link = k; refusal = m }) (record { axis = b; link = j; refusal = 0 }) n
+cycled a k b j n = answer (refused a k) (done b j) n
 
 unfoldable pub cycle : Axis → Link → ℕ → List ℕ → List ℕ → Cycled
 cycle a k raw output input =

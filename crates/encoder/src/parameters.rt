@@ -45,7 +45,7 @@ impl Parameters {
     }
 
     // The fields that the rules ask.
-    pub(crate) fn fields(self) -> Fields
+    pub fn fields(self) -> Fields
         ensures { λ r. ⌜ r ≡ fieldsOf self ⌝ }
     {
         match self {

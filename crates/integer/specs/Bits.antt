@@ -1,9 +1,13 @@
 -- Bits of a word, bit 0 the least significant (document 01, its opening lines).
 -- Assumes nothing.
 use Prim.Native.Nat.{ℕ, _/_, _%_, _^_}
-use mathlib.Core.Bool.{Bool}
+use mathlib.Core.Bool.{Bool, cond}
 use lib.Dec.{eqb}
 
 -- bit n of w is 1
 abbrev pub bit : ℕ → ℕ → Bool
 bit n w = eqb (w / 2 ^ n % 2) 1
+
+-- a word with bit n alone, where it is 1
+abbrev pub at : Bool → ℕ → ℕ
+at b n = cond b (2 ^ n) 0

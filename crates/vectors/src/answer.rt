@@ -2,6 +2,8 @@
 use axis::Axis;
 use axis::Next;
 use axis::Reported;
+use cyclic::Cycled;
+use diagnosis::Diagnosed;
 use encoder::effect::Effect;
 use encoder::effect::InForce;
 use encoder::effect::in_force;
@@ -50,6 +52,46 @@ pub(crate) fn written(answer: Written, buffer: &[u8]) {
         Written::Done => line(b"  done"),
         Written::Refused(n) => refused(n),
     }
+    lent(buffer);
+}
+
+// The diagnosis' answer, with the buffer as it left it.
+pub(crate) fn diagnosed(answer: Diagnosed, buffer: &[u8]) {
+    match answer {
+        Diagnosed::Done => line(b"  done"),
+        Diagnosed::Refused(n) => refused(n),
+    }
+    lent(buffer);
+}
+
+// What a cycle leaves: the axis or the number of the refusal, the link and the input octets.
+pub(crate) fn cycled(answer: Cycled, input: &[u8]) {
+    let k = answer.link;
+    let axis = answer.axis;
+    next(Next {
+        axis,
+        refusal: answer.refusal,
+    });
+    text(b"  link");
+    flag(k.faulty);
+    flag(k.requested);
+    flag(k.error);
+    flag(k.acknowledged);
+    flag(k.executed);
+    line(b"");
+    lent(input);
+}
+
+fn flag(b: bool) {
+    if b {
+        text(b" 1");
+    } else {
+        text(b" 0");
+    }
+}
+
+// The octets of a buffer.
+fn lent(buffer: &[u8]) {
     text(b" ");
     octets(buffer);
     line(b"");

@@ -7,6 +7,7 @@ use crate::parse::long;
 use crate::parse::past_blanks;
 use crate::parse::signed;
 use crate::vector::nameplate;
+use crate::vector::octets;
 use crate::vector::parameters;
 use axis::Axis;
 use axis::Next;
@@ -32,6 +33,7 @@ pub(crate) fn run(axis: Axis, word: u8, line: &[u8]) -> Axis {
         b'h' => answered(axis.store(signed(line, 8).value)),
         b'l' => list(axis, line),
         b'v' => fast(axis, line),
+        b's' => serial(axis, line),
         _ => axis,
     }
 }
@@ -95,6 +97,18 @@ fn given(axis: Axis, line: &[u8]) -> Axis {
     record.preset = preset.value;
     record.stored = stored.value;
     record
+}
+
+// `serial`: the software version and the serial of the nameplate, in twelve octets.
+fn serial(axis: Axis, line: &[u8]) -> Axis {
+    let mut o = [0u8; 12];
+    octets(line, 8, &mut o);
+    let mut plate = axis.nameplate;
+    plate.software = [o[0], o[1]];
+    plate.serial = [o[2], o[3], o[4], o[5], o[6], o[7], o[8], o[9], o[10], o[11]];
+    let mut named = axis;
+    named.nameplate = plate;
+    named
 }
 
 // `first`: starts the axis at a step and a turn.

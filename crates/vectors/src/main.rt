@@ -1,6 +1,7 @@
 // Runs the worked values of the papers, and values that were calculated apart. The file stdin has a vector a line, and the file stdout the
 // same lines, each with the answer that is to come.
 mod answer;
+mod bench;
 mod call;
 mod parse;
 mod vector;
@@ -14,13 +15,13 @@ fn main() {
     lines(&space[..n]);
 }
 
-// The calls of one line are made on the axis that the line before has left.
+// The calls of one line are made on the axis and the link that the line before has left.
 fn lines(text: &[u8]) {
-    let mut axis = call::none();
+    let mut bench = bench::none();
     let mut at = 0;
     while at < text.len() {
         let end = find(text, at, text.len(), b'\n');
-        axis = vector::run(axis, &text[at..end]);
+        bench = vector::run(bench, &text[at..end]);
         at = end + 1;
     }
 }

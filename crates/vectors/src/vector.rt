@@ -2,11 +2,11 @@
 // Octets and the ident number are hexadecimal, other numbers decimal.
 ghost use Rattle.io.specs.Counts.{Counts};
 use crate::answer;
-use crate::call;
+use crate::bench;
+use crate::bench::Bench;
 use crate::parse::decimal;
 use crate::parse::hexadecimal;
 use crate::parse::past_blanks;
-use axis::Axis;
 use encoder::nameplate::Nameplate;
 use encoder::parameters::Parameters;
 use encoder::quantity::Steps;
@@ -16,11 +16,11 @@ use reader::read_block;
 use reader::read_telegram;
 use writer::write_parameters;
 
-// Writes the line, and below it the answer. Yields the axis that it leaves.
-pub(crate) fn run(axis: Axis, line: &[u8]) -> Axis {
+// Writes the line, and below it the answer. Yields the axis and the link that it leaves.
+pub(crate) fn run(bench: Bench, line: &[u8]) -> Bench {
     answer::line(line);
     if line.len() < 8 {
-        return axis;
+        return bench;
     }
     let word = line[0];
     match word {
@@ -28,7 +28,7 @@ pub(crate) fn run(axis: Axis, line: &[u8]) -> Axis {
         b'w' => write(line),
         _ => {}
     }
-    call::run(axis, word, line)
+    bench::run(bench, word, line)
 }
 
 // `telegram` and `block`: the octets of a class 2 telegram or of a class 4 block, to be read.
@@ -109,7 +109,7 @@ pub(crate) fn nameplate(line: &[u8]) -> Plated {
 }
 
 // Puts the octets of a line at the front of out, and answers how many there are.
-fn octets(line: &[u8], from: usize, out: &mut [u8]) -> usize
+pub(crate) fn octets(line: &[u8], from: usize, out: &mut [u8]) -> usize
     ensures { λ r. ⌜ Counts r (now (out .exit)) ⌝ }
 {
     let mut at = past_blanks(line, from);

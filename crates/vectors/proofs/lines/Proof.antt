@@ -7,10 +7,10 @@ use Rattle.vectors.proofs.lines.Statement.{statement}
 use Rattle.vectors.proofs.lines.Tie as tie
 
 abbrev Inv-loop : tie.InvT-loop
-Inv-loop text axis₀ at₀ axis at = Unit
+Inv-loop text bench₀ at₀ bench at = Unit
 
 abbrev μ-loop : tie.MeasureT-loop
-μ-loop text axis₀ at₀ axis at = length text - at
+μ-loop text bench₀ at₀ bench at = length text - at
 
 pub lines-spec : {M : Type 1} → statement M
 lines-spec =

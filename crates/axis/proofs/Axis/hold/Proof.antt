@@ -10,7 +10,5 @@ hold-spec =
     tie.close
     (tie.spec
     (λ c κs. search needs)
-    (λ c κs. search needs)
     (λ c. search (needs, presets))
-    (λ c κs. search needs)
     (λ c. search (needs, presets)))

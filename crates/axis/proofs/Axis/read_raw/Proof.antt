@@ -13,6 +13,5 @@ read-raw-spec =
     (λ c. search needs)
     (λ c κs. search (needs, readings))
     (λ c. search needs)
-    (λ c κs. search needs)
     (λ c. search needs)
     (λ c. search (needs, readings)))

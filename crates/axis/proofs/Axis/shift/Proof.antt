@@ -10,12 +10,10 @@ shift-spec =
     tie.close
     (tie.spec
     (λ c κs. search needs)
-    (λ c κs. search needs)
     (λ c. search (needs, presets))
     (λ c κs. search needs)
     (λ c κs. search needs)
     (λ c. search needs)
     (λ c. search needs)
     (λ c. search (needs, presets))
-    (λ c κs. search needs)
     (λ c. search (needs, presets)))

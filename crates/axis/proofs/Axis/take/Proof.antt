@@ -11,8 +11,6 @@ take-spec =
     (tie.spec
     (λ c κs. search needs)
     (λ c. search needs)
-    (λ c κs. search needs)
     (λ c. search needs)
-    (λ c κs. search needs)
     (λ c. search (needs, readings))
     (λ c. search (needs, readings)))

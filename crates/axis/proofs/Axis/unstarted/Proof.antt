@@ -10,5 +10,4 @@ unstarted-spec =
     tie.close
     (tie.spec
     (λ c κs. search needs)
-    (λ c κs. search needs)
     (λ c. search (needs, starts)))

@@ -1,0 +1,16 @@
+-- By the laws of Class4Laws, one for each way out.
+-- Assumes nothing.
+use borrow.Author.Needs.{needs}
+use Rattle.cyclic.proofs.Class4Laws.{four}
+use Rattle.cyclic.proofs.class4.preset.Statement.{statement}
+use Rattle.cyclic.proofs.class4.preset.Tie as tie
+
+pub preset-spec : {M : Type 1} → statement M
+preset-spec =
+    tie.close
+    (tie.spec
+    (λ c κs. search needs)
+    (λ c κs. search needs)
+    (λ c κs. search needs)
+    (λ c. search (needs, four))
+    (λ c. search (needs, four)))

@@ -1,0 +1,15 @@
+-- The raw number that a cycle takes first (document 01, "One cycle", its first paragraph).
+-- Assumes nothing.
+use Prim.Native.Nat.{ℕ}
+use mathlib.Core.Bool.{Bool, not}
+use lib.Dec.{eqb}
+use Rattle.axis.specs.declared.Axis.{Axis}
+use Rattle.axis.specs.Reading.{readRaw}
+
+-- if 9 or 10 would refuse it, the cycle is faulty
+unfoldable pub faultyAt : Axis → ℕ → Bool
+faultyAt a raw = not (eqb (readRaw a raw .refusal) 0)
+
+-- and the axis keeps its place; otherwise it has moved
+unfoldable pub takenAt : Axis → ℕ → Axis
+takenAt a raw = readRaw a raw .axis

@@ -1,0 +1,3 @@
+pub mod Class2Laws
+pub mod Class4Laws
+pub mod Acknowledging

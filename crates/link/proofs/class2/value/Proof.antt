@@ -1,0 +1,12 @@
+-- By the laws of Class2Laws, one for each way out.
+-- Assumes nothing.
+use borrow.Author.Needs.{needs}
+use Rattle.link.proofs.Class2Laws.{two}
+use Rattle.link.proofs.class2.value.Statement.{statement}
+use Rattle.link.proofs.class2.value.Tie as tie
+
+pub value-spec : {M : Type 1} → statement M
+value-spec =
+    tie.close
+    (tie.spec
+    (λ c. search (needs, two)))

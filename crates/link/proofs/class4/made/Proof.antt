@@ -1,0 +1,14 @@
+-- By the laws of Class4Laws, one for each way out.
+-- Assumes nothing.
+use borrow.Author.Needs.{needs}
+use Rattle.link.proofs.Class4Laws.{four}
+use Rattle.link.proofs.class4.made.Statement.{statement}
+use Rattle.link.proofs.class4.made.Tie as tie
+
+pub made-spec : {M : Type 1} → statement M
+made-spec =
+    tie.close
+    (tie.spec
+    (λ c κs. search needs)
+    (λ c κs. search needs)
+    (λ c. search (needs, four)))

@@ -1,0 +1,26 @@
+-- What a cycle of class 2 makes of its output word (document 01, "One cycle", its second paragraph).
+-- Assumes nothing.
+use Prim.Native.Nat.{ℕ, _%_, _^_}
+use mathlib.Core.Bool.{Bool, not, _&&_}
+use lib.Dec.{ltb}
+use Rattle.integer.specs.Bits.{bit}
+use Rattle.encoder.specs.declared.effect.InForce.{InForce}
+use Rattle.link.specs.declared.Link.{Link}
+
+-- bit 31 of the output asks for an absolute preset ..
+abbrev pub asked : ℕ → Bool
+asked word = bit 31 word
+
+-- .. of bits 0 to 30
+abbrev pub value : ℕ → ℕ
+value word = word % 2 ^ 31
+
+-- it is made when bit 31 was 0 in the cycle before and is 1 now, the class is on, the cycle is not faulty and the value is below L; otherwise it
+-- is passed over
+unfoldable pub made : InForce → Link → Bool → ℕ → Bool
+made f k faulty word = not (k .requested) && asked word && f .enabled && not faulty && ltb (value word) (f .span .0)
+
+-- what the cycle leaves for the next; the rest of the link is class 4's
+unfoldable pub link : Link → Bool → ℕ → Link
+link k faulty word =
+    record { faulty = faulty; requested = asked word; error = k .error; acknowledged = k .acknowledged; executed = k .executed }

@@ -1,0 +1,56 @@
+-- What a cycle of class 4 makes of G1_STW, as counted, and G1_ZSW (document 01, "One cycle", its table and what stands below it).
+-- Assumes nothing.
+use Prim.Native.Nat.{ℕ, _+_}
+use mathlib.Core.Bool.{Bool, cond, not, _&&_, _||_}
+use Rattle.integer.specs.Bits.{bit, at}
+use Rattle.encoder.specs.declared.effect.InForce.{InForce}
+use Rattle.link.specs.declared.Link.{Link}
+
+-- ---- the bits of G1_STW; bit 13 is ignored
+abbrev pub acknowledges : ℕ → Bool
+acknowledges word = bit 15 word
+
+abbrev pub parked : ℕ → Bool
+parked word = bit 14 word
+
+abbrev pub asked : ℕ → Bool
+asked word = bit 12 word
+
+abbrev pub relative : ℕ → Bool
+relative word = bit 11 word
+
+-- ---- in order
+-- a faulty cycle that is not parked holds the error
+abbrev pub arises : Link → Bool → ℕ → Bool
+arises k faulty word = k .error || (faulty && not (parked word))
+
+-- if acknowledge was seen last cycle and bit 15 is now 0, the error stays held only if this cycle is faulty
+unfoldable pub held : Link → Bool → ℕ → Bool
+held k faulty word = cond (k .acknowledged && not (acknowledges word)) (arises k faulty word && faulty) (arises k faulty word)
+
+-- acknowledge seen = error held and bit 15
+abbrev pub seen : Link → Bool → ℕ → Bool
+seen k faulty word = held k faulty word && acknowledges word
+
+-- a preset is made on a rise of bit 12 when the class is on, no error is held and the cycle is not faulty
+unfoldable pub made : InForce → Link → Bool → ℕ → Bool
+made f k faulty word = not (k .requested) && asked word && f .enabled && not (held k faulty word) && not faulty
+
+-- preset executed is then 1 and stays so until bit 12 is 0
+abbrev pub executed : InForce → Link → Bool → ℕ → Bool
+executed f k faulty word = asked word && (made f k faulty word || k .executed)
+
+-- what the cycle leaves for the next
+unfoldable pub link : InForce → Link → Bool → ℕ → Link
+link f k faulty word =
+    record {
+      faulty = faulty;
+      requested = asked word;
+      error = held k faulty word;
+      acknowledged = seen k faulty word;
+      executed = executed f k faulty word;
+    }
+
+-- ---- G1_ZSW, by the link that the cycle leaves; other status bits are 0
+unfoldable pub zsw : Link → ℕ → ℕ
+zsw k word = at (k .error) 15 + at (parked word) 14 + at (not (k .error)) 13 + at (k .executed) 12 + at (k .acknowledged) 11

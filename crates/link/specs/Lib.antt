@@ -1,0 +1,3 @@
+pub mod Link
+pub mod Class2
+pub mod Class4

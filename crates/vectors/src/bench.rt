@@ -1,0 +1,100 @@
+// Cycles and diagnoses, on the axis and the link that the line before has left. Octets are hexadecimal, other numbers decimal.
+use crate::answer;
+use crate::call;
+use crate::parse::decimal;
+use crate::vector::octets;
+use axis::Axis;
+use cyclic::cycle;
+use diagnosis::diagnosis;
+use link::Link;
+
+pub struct Bench {
+    pub axis: Axis,
+    pub link: Link,
+}
+
+// Before the first line that describes an axis.
+pub(crate) fn none() -> Bench {
+    Bench {
+        axis: call::none(),
+        link: Link::quiet(),
+    }
+}
+
+pub(crate) fn run(bench: Bench, word: u8, line: &[u8]) -> Bench {
+    match word {
+        b'e' => exchange(bench, line),
+        b'd' => diagnose(bench, line),
+        b'k' => keep(bench, line),
+        _ => called(bench, word, line),
+    }
+}
+
+// Any other call; another axis has another link.
+fn called(bench: Bench, word: u8, line: &[u8]) -> Bench {
+    let axis = call::run(bench.axis, word, line);
+    if word == b'a' {
+        let link = Link::quiet();
+        return Bench { axis, link };
+    }
+    let mut next = bench;
+    next.axis = axis;
+    next
+}
+
+// `exchange`: how many input octets are lent, each of them EEh, the raw number, and the output octets.
+fn exchange(bench: Bench, line: &[u8]) -> Bench {
+    let size = decimal(line, 8);
+    let raw = decimal(line, size.next);
+    let mut output = [0u8; 64];
+    let n = octets(line, raw.next, &mut output);
+    let m = size.value as usize;
+    let mut input = [0xee; 64];
+    if 64 < m {
+        return bench;
+    }
+    cycled(bench, raw.value, &output[..n], &mut input[..m])
+}
+
+fn cycled(bench: Bench, raw: u32, output: &[u8], input: &mut [u8]) -> Bench {
+    let next = cycle(bench.axis, bench.link, raw, output, input);
+    answer::cycled(next, input);
+    let axis = next.axis;
+    let link = next.link;
+    Bench { axis, link }
+}
+
+// `diagnose`: how many octets are lent, each of them EEh.
+fn diagnose(bench: Bench, line: &[u8]) -> Bench {
+    let size = decimal(line, 8);
+    let n = size.value as usize;
+    let mut buffer = [0xee; 64];
+    if n <= 64 {
+        fill(bench, &mut buffer[..n]);
+    }
+    bench
+}
+
+fn fill(bench: Bench, buffer: &mut [u8]) {
+    let answer = diagnosis(bench.axis, bench.link, buffer);
+    answer::diagnosed(answer, buffer);
+}
+
+// `keep`: a link that is brought: faulty, requested, error, acknowledged, executed, 1 or 0.
+fn keep(bench: Bench, line: &[u8]) -> Bench {
+    let faulty = decimal(line, 8);
+    let requested = decimal(line, faulty.next);
+    let error = decimal(line, requested.next);
+    let acknowledged = decimal(line, error.next);
+    let executed = decimal(line, acknowledged.next);
+    let link = Link {
+        faulty: faulty.value == 1,
+        requested: requested.value == 1,
+        error: error.value == 1,
+        acknowledged: acknowledged.value == 1,
+        executed: executed.value == 1,
+    };
+    let mut brought = bench;
+    brought.link = link;
+    brought
+}
