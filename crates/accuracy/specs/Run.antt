@@ -12,8 +12,8 @@ use Rattle.axis.specs.Reading.{start, readRaw, read}
 use Rattle.axis.specs.Preset.{preset, store}
 use Rattle.batch.specs.Batch.{batch, batchList}
 use Rattle.link.specs.declared.Link.{Link}
-use Rattle.cyclic.specs.declared.Cycled.{Cycled}
 use Rattle.link.specs.Link.{quiet}
+use Rattle.cyclic.specs.declared.Cycled.{Cycled}
 use Rattle.cyclic.specs.Cycle.{cycle, cycleInput}
 use Rattle.accuracy.specs.Calls.{Call, reading, rawReading, batching, presetting, storing, cycling}
 use Rattle.accuracy.specs.Claim.{Program}

@@ -1,18 +1,16 @@
--- The parts of a class 4 cycle, each way out: a preset that is made is one that no row refuses, an axis within its limits has a position, and
--- twelve octets, one by one, compute.
+-- The parts of a class 4 cycle, each way out: a preset that is made is one that no row refuses, and an axis within its limits has a position.
 -- Assumes nothing.
 use mathlib.Core.Path.{_≡_, sym, _∙_}
 use mathlib.Core.Bool.{Bool, true, false}
-use mathlib.Core.List.{List, _++_}
+use mathlib.Core.List.{List}
 use Prim.Native.Nat.{ℕ, _%_, _^_}
 use native.Mathlib.Omega.{arith}
-use lib.ListN.{length, take, drop}
-use borrow.Rule.Slice.PartMut.{putMid, postOf}
+use lib.ListN.{take, drop}
 use mir.Syntax.{w64}
 use mir.Val.{toZ, ofZ}
 use Rattle.integer.specs.Bits.{bit}
-use Rattle.integer.specs.Octets.{bigEndian, octets}
-use Rattle.integer.proofs.Octets.{known, Octets, bigEndian-part}
+use Rattle.integer.specs.Octets.{bigEndian}
+use Rattle.integer.proofs.Octets.{Octets, bigEndian-part}
 use Rattle.integer.proofs.Size.{reads, fits-abs}
 use Rattle.encoder.specs.declared.quantity.Units.{Units}
 use Rattle.encoder.specs.declared.parameters.Fields.{Fields}
@@ -76,20 +74,6 @@ module _ (a : Axis) (g : Fields) (b : Bool) (p u : Units) (g-is : g ≡ fieldsOf
   pub xist1-position : b ≡ false → p .0 ≡ xist1 a
   xist1-position t = rw (← g-is, ← b-is, t) p-is
 
-pub put-words : (t i j k l : List ℕ) (status first second : ℕ) → length t ≡ 12
-    → i ≡ octets (length (take 2 (drop 0 t))) 0x0200
-    → j ≡ octets (length (take 2 (drop 2 (i ++ postOf 0 2 t)))) status
-    → k ≡ octets (length (take 4 (drop 4 (putMid 2 2 (i ++ postOf 0 2 t) j)))) first
-    → l ≡ octets (length (take 4 (drop 8 (putMid 4 4 (putMid 2 2 (i ++ postOf 0 2 t) j) k)))) second
-    → putMid 8 4 (putMid 4 4 (putMid 2 2 (i ++ postOf 0 2 t) j) k) l ≡ words status first second
-unfolding octets
-put-words t i j k l status first second h p q r s =
-    let a : i ≡ octets 2 0x0200 = rw (known 12 t h) at p in
-    let b : j ≡ octets 2 status = rw (known 12 t h, a) at q in
-    let c : k ≡ octets 4 first = rw (known 12 t h, a, b) at r in
-    let d : l ≡ octets 4 second = rw (known 12 t h, a, b, c) at s in
-    rw (known 12 t h, a, b, c, d)
-
 module _ (a : Axis) (f : InForce) (r : Ready a f) (e : Reported) (e-is : e ≡ reported a) (k : Link) (w : ℕ) (l : List ℕ) where
   module _ (p u : Units) (h : e ≡ At p u) where
     pub at-position : p .0 ≡ positionOf a
@@ -118,7 +102,6 @@ pub ruleset four = (
   preset-not,
   xist1-unshifted,
   xist1-position,
-  put-words,
   at-position,
   at-unshifted,
   filled-error,

@@ -1,7 +1,7 @@
 -- One cycle, each way out: refused, axis, link and input are kept; else they are those of the class.
 -- Assumes nothing.
 use mathlib.Core.Path.{_≡_, refl, sym, ap, _∙_}
-use mathlib.Core.Bool.{Bool, true, false, not, _&&_}
+use mathlib.Core.Bool.{Bool, true, false, cond, not, _&&_}
 use mathlib.Core.List.{List}
 use Prim.Native.Nat.{ℕ, _%_, _^_}
 use native.Mathlib.Omega.{arith}
@@ -48,17 +48,20 @@ module _ (class : Bool) (output input : ℕ) where
   fits-two t = rw t
 
   module _ (b : Bool) (n : not b ≡ false) (b-is : b ≡ fits class output input) where
-    pub output-four : output ≡ 4
+    lengths : (output ≡ 4) × (input ≡ cond class 12 4)
     unfolding fits
-    output-four = eqb-true _ _ (and-split (eqb output 4) _ (sym b-is ∙ not-false b n) .0)
+    lengths =
+        let h = and-split (eqb output 4) (eqb input (cond class 12 4)) (sym b-is ∙ not-false b n) in
+        (eqb-true _ _ (h .0), eqb-true _ _ (h .1))
+
+    pub output-four : output ≡ 4
+    output-four = lengths .0
 
     pub input-twelve : class ≡ true → input ≡ 12
-    unfolding fits
-    input-twelve t = eqb-true _ _ (and-split (eqb output 4) (eqb input 12) (rw t at (sym b-is ∙ not-false b n)) .1)
+    input-twelve t = rw t at (lengths .1)
 
     pub input-four : class ≡ false → input ≡ 4
-    unfolding fits
-    input-four t = eqb-true _ _ (and-split (eqb output 4) (eqb input 4) (rw t at (sym b-is ∙ not-false b n)) .1)
+    input-four t = rw t at (lengths .1)
 
 -- four octets are a number of 32 bits
 word-is : (output : List ℕ) → Octets output → length output ≡ 4 → bigEndian output % 2 ^ 32 ≡ bigEndian output

@@ -9,7 +9,7 @@ use lib.ListN.{length}
 use borrow.Author.Tests.{eq-eqb, ne-eqb}
 use borrow.Rule.Slice.PartMut.{putMid, postOf}
 use Rattle.integer.specs.Octets.{octets}
-use Rattle.integer.proofs.Octets.{known}
+use Rattle.integer.proofs.Octets.{four-parts}
 use Rattle.encoder.specs.declared.effect.InForce.{InForce}
 use Rattle.encoder.specs.declared.effect.Effect.{Effect}
 use Rattle.encoder.specs.declared.effect.Effect.the-variants.{Taken, Refused as NotInForce}
@@ -22,27 +22,22 @@ use Rattle.diagnosis.specs.declared.Diagnosed.the-variants.{Done, Refuse
 use Rattle.diagnosis.specs.Diagnosis.{lengthBy, general, versions, values, identity, report, diagnosisRefusal, diagnosis, diagnosisOctets}
 
 -- ---- the parts in a buffer of 57 octets
-module _ (t g v w i : List ℕ) where
-  in-order : length t ≡ 57 → length g ≡ 10 → length v ≡ 15 → length w ≡ 16 → length i ≡ 16
-      → putMid 41 16 (putMid 25 16 (putMid 10 15 (g ++ postOf 0 10 t) v) w) i ≡ g ++ v ++ w ++ i
-  in-order ht hg hv hw hi = rw (known 57 t ht, known 10 g hg, known 15 v hv, known 16 w hw, known 16 i hi)
+module _ (t g v w i : List ℕ) (a : Axis) (f : InForce) (r : Ready a f) (k : Link) where
+  general-long : length (general a k) ≡ 10
+  unfolding general octets
+  general-long = refl
 
-  module _ (a : Axis) (f : InForce) (r : Ready a f) (k : Link) where
-    general-long : length (general a k) ≡ 10
-    unfolding general octets
-    general-long = refl
+  values-long : length (values a) ≡ 16
+  unfolding values octets
+  values-long = refl
 
-    values-long : length (values a) ≡ 16
-    unfolding values octets
-    values-long = refl
-
-    pub all-filled : f .enabled ≡ true → length t ≡ 57 → length (versions (a .nameplate)) ≡ 15 → length (identity (a .nameplate)) ≡ 16
-        → g ≡ general a k → v ≡ versions (a .nameplate) → w ≡ values a → i ≡ identity (a .nameplate)
-        → putMid 41 16 (putMid 25 16 (putMid 10 15 (g ++ postOf 0 10 t) v) w) i ≡ report a k
-    unfolding report
-    all-filled on h vh ih g-is v-is w-is i-is =
-        in-order h (rw g-is general-long) (rw v-is vh) (rw w-is values-long) (rw i-is ih)
-        ∙ rw (← r .is, on, g-is, v-is, w-is, i-is)
+  pub all-filled : f .enabled ≡ true → length t ≡ 57 → length (versions (a .nameplate)) ≡ 15 → length (identity (a .nameplate)) ≡ 16
+      → g ≡ general a k → v ≡ versions (a .nameplate) → w ≡ values a → i ≡ identity (a .nameplate)
+      → putMid 41 16 (putMid 25 16 (putMid 10 15 (g ++ postOf 0 10 t) v) w) i ≡ report a k
+  unfolding report
+  all-filled on h vh ih g-is v-is w-is i-is =
+      four-parts 10 15 16 16 t g v w i h (rw g-is general-long) (rw v-is vh) (rw w-is values-long) (rw i-is ih)
+      ∙ rw (← r .is, on, g-is, v-is, w-is, i-is)
 
 -- ---- the length
 module _ (a : Axis) (f : InForce) (r : Ready a f) (k : Link) (b : List ℕ) where

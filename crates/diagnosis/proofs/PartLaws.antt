@@ -140,30 +140,6 @@ module _ (n : Nameplate) (t s i j l : List ℕ) where
       rw (known 15 t h, a, b, c, d, known 2 (n .software) two)
 
 -- ---- octets 32 to 47
-module _ (t i j k l : List ℕ) (x y z w : ℕ) where
-  abbrev second : List ℕ
-  second = i ++ postOf 0 4 t
-
-  abbrev third : List ℕ
-  third = putMid 4 4 second j
-
-  abbrev fourth : List ℕ
-  fourth = putMid 8 4 third k
-
-  pub four-put : length t ≡ 16
-      → i ≡ octets (length (take 4 t)) x
-      → j ≡ octets (length (take 4 (drop 4 second))) y
-      → k ≡ octets (length (take 4 (drop 8 third))) z
-      → l ≡ octets (length (take 4 (drop 12 fourth))) w
-      → putMid 12 4 fourth l ≡ fourNumbers x y z w
-  unfolding octets
-  four-put h p q r s =
-      let a : i ≡ octets 4 x = rw (known 16 t h) at p in
-      let b : j ≡ octets 4 y = rw (known 16 t h, a) at q in
-      let c : k ≡ octets 4 z = rw (known 16 t h, a, b) at r in
-      let d : l ≡ octets 4 w = rw (known 16 t h, a, b, c) at s in
-      rw (known 16 t h, a, b, c, d)
-
 pub values-filled : (a : Axis) (f : InForce) (l : List ℕ) (x y : ℕ) → Ready a f
     → x ≡ complement (toZ w64 (ofZ w64 (a .offset))) → y ≡ complement (toZ w64 (ofZ w64 (a .preset)))
     → l ≡ fourNumbers x y (f .scale .0) (f .span .0) → l ≡ values a
@@ -203,7 +179,6 @@ pub ruleset parts = (
   software-room,
   versions-long,
   versions-filled,
-  four-put,
   values-filled,
   serial-room,
   identity-long,

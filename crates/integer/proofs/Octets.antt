@@ -1,15 +1,16 @@
 -- Lists of a known length, and numbers as octets: the laws hold for every number of octets.
 -- Assumes nothing.
-use mathlib.Core.Path.{_≡_, refl, ap}
-use mathlib.Core.List.{List, [], _∷_, _++_}
+use mathlib.Core.Path.{_≡_, refl, sym, ap, _∙_}
+use mathlib.Core.List.{List, [], _∷_, _++_, append-assoc, append-nil}
 use Prim.Native.Nat.{ℕ, zero, suc, _+_, _*_, _/_, _%_, _^_, _<_, _≤_}
 use native.Mathlib.Omega.{arith}
 use native.Mathlib.Nat as N
 use native.Mathlib.Numerals.{add-one}
 use mir.Syntax.{w8}
 use mir.Val.{Fits}
-use lib.ListN.{length, getD, take, drop, length-append, length-take}
-use lib.Seq.{getD-drop}
+use lib.ListN.{length, getD, take, drop, length-append, length-take, length-drop}
+use lib.Seq.{getD-drop, length-take-le, take-at, drop-at, drop-drop, drop-length}
+use borrow.Rule.Slice.PartMut.{putMid, postOf}
 use Rattle.integer.specs.Octets.{bigEndian, octets}
 
 -- a list of a known length, element by element: what is computed of it then computes
@@ -67,3 +68,47 @@ bigEndian-part os k l h o =
     let a : length p ≤ 4 = rw length-take (N.le-trans (N.min-le-left l (length (drop k os))) h) in
     let b : 256 ^ length p ≤ 256 ^ 4 = N.pow-le-pow-right {n = 256} (omega arith) a in
     N.mod-eq-of-lt (N.lt-of-lt-of-le (bigEndian-lt p (take-octets l (drop k os) (drop-octets k os o))) b)
+
+-- ---- parts of a buffer that are lent one behind the other: s is what stands there so far, in front of what the buffer t had
+put-next : (s j t : List ℕ) (a b : ℕ) → length s ≡ a → putMid a b (s ++ drop a t) j ≡ s ++ j ++ drop (a + b) t
+put-next s j t a b h = rw (take-at s (drop a t) a h, drop-at s (drop a t) a h, drop-drop) (sym (append-assoc s j (drop (a + b) t)))
+
+more-long : (s j : List ℕ) (a b : ℕ) → length s ≡ a → length j ≡ b → length (s ++ j) ≡ a + b
+more-long s j a b h k = rw (length-append, h, k)
+
+-- four parts fill it
+pub four-parts : (a b c d : ℕ) (t i j k l : List ℕ) → length t ≡ a + b + c + d → length i ≡ a → length j ≡ b → length k ≡ c → length l ≡ d
+    → putMid (a + b + c) d (putMid (a + b) c (putMid a b (i ++ postOf 0 a t) j) k) l ≡ i ++ j ++ k ++ l
+four-parts a b c d t i j k l h hi hj hk hl =
+    let ij = more-long i j a b hi hj in
+    let ijk = more-long (i ++ j) k (a + b) c ij hk in
+    rw (put-next i j t a b hi, put-next (i ++ j) k t (a + b) c ij, put-next (i ++ j ++ k) l t (a + b + c) d ijk, ← h, drop-length t, append-nil)
+
+-- and so do four numbers, each in as many octets as its part has
+octets-long : (k n : ℕ) → length (octets k n) ≡ k
+unfolding octets
+octets-long zero n = refl
+octets-long (suc k) n = rw (length-append, octets-long k (n / 256)) (add-one k)
+
+number-next : (s t j : List ℕ) (a b n : ℕ) → length s ≡ a → a + b ≤ length t → j ≡ octets (length (take b (drop a (s ++ drop a t)))) n → j ≡ octets b n
+number-next s t j a b n h room e =
+    let long : b ≤ length (drop a t) = rw length-drop (omega arith) in
+    e ∙ rw (drop-at s (drop a t) a h, length-take-le b (drop a t) long)
+
+pub four-numbers : (a b c d : ℕ) (t i j k l : List ℕ) (w x y z : ℕ) → length t ≡ a + b + c + d
+    → i ≡ octets (length (take a t)) w
+    → j ≡ octets (length (take b (drop a (i ++ postOf 0 a t)))) x
+    → k ≡ octets (length (take c (drop (a + b) (putMid a b (i ++ postOf 0 a t) j)))) y
+    → l ≡ octets (length (take d (drop (a + b + c) (putMid (a + b) c (putMid a b (i ++ postOf 0 a t) j) k)))) z
+    → putMid (a + b + c) d (putMid (a + b) c (putMid a b (i ++ postOf 0 a t) j) k) l ≡ octets a w ++ octets b x ++ octets c y ++ octets d z
+four-numbers a b c d t i j k l w x y z h p q r s =
+    let is : i ≡ octets a w = number-next [] t i 0 a w refl (omega arith) p in
+    let hi : length i ≡ a = rw is (octets-long a w) in
+    let js : j ≡ octets b x = number-next i t j a b x hi (omega arith) q in
+    let hj : length j ≡ b = rw js (octets-long b x) in
+    let ij = more-long i j a b hi hj in
+    let ks : k ≡ octets c y = number-next (i ++ j) t k (a + b) c y ij (omega arith) (rw (put-next i j t a b hi) at r) in
+    let hk : length k ≡ c = rw ks (octets-long c y) in
+    let ijk = more-long (i ++ j) k (a + b) c ij hk in
+    let ls : l ≡ octets d z = number-next (i ++ j ++ k) t l (a + b + c) d z ijk (omega arith) (rw (put-next i j t a b hi, put-next (i ++ j) k t (a + b) c ij) at s) in
+    four-parts a b c d t i j k l h hi hj hk (rw ls (octets-long d z)) ∙ rw (is, js, ks, ls)

@@ -5,6 +5,7 @@ use crate::Link;
 use encoder::effect::InForce;
 use octets::bit;
 
+// Bits of G1_STW.
 const ACKNOWLEDGE: u32 = 15;
 
 const PARK: u32 = 14;

@@ -1,7 +1,7 @@
--- By the laws of Class4Laws, one for each way out.
+-- Four numbers, of two, two, four and four octets, fill the input.
 -- Assumes nothing.
 use borrow.Author.Needs.{needs}
-use Rattle.cyclic.proofs.Class4Laws.{four}
+use Rattle.integer.proofs.Octets.{four-numbers}
 use Rattle.cyclic.proofs.class4.put.Statement.{statement}
 use Rattle.cyclic.proofs.class4.put.Tie as tie
 
@@ -26,4 +26,4 @@ put-spec =
     (λ c. search needs)
     (λ c κs. search needs)
     (λ c. search needs)
-    (λ c. search (needs, four)))
+    (λ c. search (needs, four-numbers 2 2 4 4)))

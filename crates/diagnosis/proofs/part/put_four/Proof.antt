@@ -1,7 +1,7 @@
--- By the laws of PartLaws, one for each way out.
+-- Four numbers of four octets fill the part.
 -- Assumes nothing.
 use borrow.Author.Needs.{needs}
-use Rattle.diagnosis.proofs.PartLaws.{parts}
+use Rattle.integer.proofs.Octets.{four-numbers}
 use Rattle.diagnosis.proofs.part.put_four.Statement.{statement}
 use Rattle.diagnosis.proofs.part.put_four.Tie as tie
 
@@ -26,4 +26,4 @@ put-four-spec =
     (λ c. search needs)
     (λ c κs. search needs)
     (λ c. search needs)
-    (λ c. search (needs, parts)))
+    (λ c. search (needs, four-numbers 4 4 4 4)))
