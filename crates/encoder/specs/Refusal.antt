@@ -59,6 +59,10 @@ wrongBuffer = 13
 abbrev pub nothingElapsed : ℕ
 nothingElapsed = 14
 
+-- form: line is no form; input above 60,000 octets
+abbrev pub noForm : ℕ
+noForm = 15
+
 -- no axis: no started axis, or a record outside its limits
 abbrev pub noAxis : ℕ
 noAxis = 16

@@ -3,3 +3,4 @@ pub mod Size
 pub mod Modulus
 pub mod Clamp
 pub mod Octets
+pub mod Text

@@ -36,7 +36,7 @@ to-nat (pos n) h = (tt, record { fits = h .1 })
 to-nat (negsuc n) h = absurd (omega arith)
 
 -- the difference of two natural numbers that are small enough: it fits, and is read back
-module _ (a b : ℕ) (a-most : a ≤ 2 ^ 31) (b-most : b ≤ 2 ^ 31) where
+module _ (a b : ℕ) (a-most : a ≤ 2 ^ 32) (b-most : b ≤ 2 ^ 32) where
   read-both : toZ w64 a -ℤ toZ w64 b ≡ pos a -ℤ pos b
   read-both = rw (toZ-pos w64 a (omega arith), toZ-pos w64 b (omega arith))
 

@@ -2,3 +2,4 @@ pub mod Modulus
 pub mod Clamp
 pub mod Octets
 pub mod Bits
+pub mod Text

@@ -67,7 +67,7 @@ module _ (n c : ℕ) (lt : n < c) where
 
   module _ (most : c ≤ 2 ^ 31) where
     pub back-fits : SFits w64 (toZ w64 n -ℤ toZ w64 c)
-    back-fits = diff-fits n c (omega arith) most
+    back-fits = diff-fits n c (omega arith) (omega arith)
 
 module _ (f : InForce) (last raw : ℕ) (s : Sound f) where
   pub move-most : natAbs (moveOf f last raw) ≤ f .capacity .0
@@ -84,7 +84,7 @@ module _ (f : InForce) (last raw : ℕ) (s : Sound f) where
 
     pub move-back : f .capacity .0 ≤ 2 * n → toZ w64 (ofZ w64 (toZ w64 n -ℤ toZ w64 (f .capacity .0))) ≡ moveOf f last raw
     unfolding moveOf
-    move-back h = rw (← n-is, shorter-back n _ lt h) (diff-reads n (f .capacity .0) (omega (arith, s .capacity-most)) (s .capacity-most))
+    move-back h = rw (← n-is, shorter-back n _ lt h) (diff-reads n (f .capacity .0) (omega (arith, s .capacity-most)) (omega (arith, s .capacity-most)))
 
 -- ---- the refusals
 module _ (f : InForce) (last raw : ℕ) where

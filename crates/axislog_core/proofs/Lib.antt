@@ -1,0 +1,5 @@
+pub mod StateLaws
+pub mod RoomLaws
+pub mod LogLaws
+pub mod OutcomeLaws
+pub mod StateKept

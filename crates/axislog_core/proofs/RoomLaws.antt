@@ -1,0 +1,73 @@
+-- The buffer always suffices: no line has more than thirteen octets of answer for each octet that it costs.
+-- Assumes nothing.
+use mathlib.Core.Path.{_≡_, refl}
+use mathlib.Core.List.{List, [], _∷_}
+use mathlib.Core.Bool.{Bool, true, false, cond}
+use Prim.Native.Nat.{ℕ, suc, _+_, _*_, _-_, _≤_}
+use native.Mathlib.Omega.{arith}
+use lib.Dec.{eqb, ltb}
+use lib.ListN.{length, length-append}
+use borrow.Author.Tests.{ltb-false}
+use Rattle.forms.specs.declared.Form.the-variants.{Nothing}
+use Rattle.forms.specs.Form.{form}
+use Rattle.forms.proofs.ShortLaws.{form-empty, form-one}
+use Rattle.answers.specs.declared.Answer.{Answer}
+use Rattle.answers.specs.declared.Answer.the-variants.{Ready, At, Refused}
+use Rattle.answers.specs.Answer.{decimalBelow, decimal, text, shown}
+use Rattle.answers.proofs.DecimalLaws.{decimal-long}
+use Rattle.axislog_core.specs.declared.state.State.{State}
+use Rattle.axislog_core.specs.State.{empty, reply}
+use Rattle.axislog_core.specs.Log.{joined, lines, answersFrom, answers}
+
+-- ---- a line
+text-long : (a : Answer) → length (text a) ≤ 21
+unfolding text shown
+text-long Ready = omega arith
+text-long (At n) = rw (length-append, length-append) (omega (arith, decimal-long n))
+text-long (Refused n) = rw (length-append, length-append) (omega (arith, decimal-long n))
+
+none-long : (s : State) → length (text (reply s Nothing .answer)) ≡ 13
+unfolding reply text shown decimal decimalBelow
+none-long s = refl
+
+-- what a line costs at least: an octet of it, or its newline
+abbrev cost : List ℕ → ℕ
+cost l = 1 + (length l - 1)
+
+line-room : (s : State) (l : List ℕ) → length (text (reply s (form l) .answer)) ≤ 13 * cost l
+line-room s [] = rw form-empty (omega (arith, none-long s))
+line-room s (x ∷ []) = rw (form-one x) (omega (arith, none-long s))
+line-room s (x ∷ y ∷ l) = omega (arith, text-long (reply s (form (x ∷ y ∷ l)) .answer))
+
+-- ---- all lines
+costs : List (List ℕ) → ℕ
+costs [] = 0
+costs (l ∷ ls) = cost l + costs ls
+
+costs-joined : (x : ℕ) (ls : List (List ℕ)) → costs (joined x ls) ≤ 1 + costs ls
+unfolding costs
+costs-joined x [] = omega arith
+costs-joined x (l ∷ ls) = omega arith
+
+costs-lines : (t : List ℕ) → costs (lines t) ≤ length t
+unfolding lines costs
+costs-lines [] = omega arith
+costs-lines (x ∷ xs) = go (eqb x 10) (costs-lines xs)
+  where
+    go : (b : Bool) → costs (lines xs) ≤ length xs → costs (cond b ([] ∷ lines xs) (joined x (lines xs))) ≤ suc (length xs)
+    go true h = omega arith
+    go false h = omega (arith, costs-joined x (lines xs))
+
+from-room : (s : State) (ls : List (List ℕ)) → length (answersFrom s ls) ≤ 13 * costs ls
+unfolding answersFrom costs
+from-room s [] = omega arith
+from-room s (l ∷ ls) = rw length-append (omega (arith, line-room s l, from-room (reply s (form l) .state) ls))
+
+-- ---- THE BUFFER: 780,000 octets hold the answers to every input
+pub answers-room : (input : List ℕ) → length (answers input) ≤ 780000
+unfolding answers
+answers-room input = go (ltb 60000 (length input)) refl
+  where
+    go : (b : Bool) → ltb 60000 (length input) ≡ b → length (cond b (text (Refused 15)) (answersFrom empty (lines input))) ≤ 780000
+    go true e = omega (arith, text-long (Refused 15))
+    go false e = omega (arith, ltb-false 60000 (length input) e, from-room empty (lines input), costs-lines input)

@@ -1,0 +1,183 @@
+-- What a form does to the axis of a log, one law for each way out.
+-- Assumes nothing.
+use mathlib.Core.Path.{_≡_, refl, sym, ap, _∙_}
+use mathlib.Core.Bool.{Bool, true, false}
+use Prim.Native.Nat.{ℕ, _+_, _*_, _≤_}
+use lib.IntN.{ℤ}
+use native.Mathlib.Omega.{arith}
+use mir.Syntax.{w8, w64}
+use mir.Val.{Fits, SFits, toZ, ofZ, boolByte}
+use Rattle.integer.specs.Bits.{at}
+use Rattle.integer.proofs.Size.{reads}
+use Rattle.encoder.specs.declared.nameplate.Nameplate.{Nameplate}
+use Rattle.encoder.specs.declared.parameters.Parameters.{Parameters}
+use Rattle.encoder.specs.declared.parameters.Parameters.the-variants.{Class2}
+use Rattle.encoder.specs.declared.quantity.Units.{Units}
+use Rattle.encoder.specs.Refusal.{answer}
+use Rattle.encoder.specs.Parameters.{refusalOn}
+use Rattle.encoder.proofs.RefusalLaws.{refused-is}
+use Rattle.sensor.specs.declared.Sensed.{Sensed}
+use Rattle.sensor.specs.Reading.{sensed}
+use Rattle.travel.specs.Travel.{nowhere}
+use Rattle.axis.specs.declared.Axis.{Axis}
+use Rattle.axis.specs.declared.Next.{Next}
+use Rattle.axis.specs.declared.Reported.{Reported}
+use Rattle.axis.specs.declared.Reported.the-variants.{At as Found, Refused as Outside}
+use Rattle.axis.specs.Axis.{reported}
+use Rattle.axis.specs.Reading.{fresh, start, readRaw}
+use Rattle.axis.specs.Preset.{preset as presetOn}
+use Rattle.forms.specs.declared.Setup.{Setup}
+use Rattle.forms.specs.declared.Form.{Form}
+use Rattle.forms.specs.declared.Form.the-variants.{Axis as AxisForm, Read, Preset, Nothing}
+use Rattle.answers.specs.declared.Answer.{Answer}
+use Rattle.answers.specs.declared.Answer.the-variants.{Ready, At, Refused}
+use Rattle.axislog_core.specs.declared.state.Stage.{Stage}
+use Rattle.axislog_core.specs.declared.state.Stage.the-variants.{NoAxis, Waiting, Started}
+use Rattle.axislog_core.specs.declared.state.State.{State}
+use Rattle.axislog_core.specs.declared.state.Reply.{Reply}
+use Rattle.axislog_core.specs.State.{plateOf, parametersOf, unstarted, shown, refused, taken, after, ready, setUp, first, readAt, read, presetAt, preset, reply}
+
+-- ---- plate and parameters
+octet-is : (b c : Bool) → boolByte b * 8 + 2 + boolByte c ≡ at b 3 + at true 1 + at c 0
+octet-is true true = refl
+octet-is true false = refl
+octet-is false true = refl
+octet-is false false = refl
+
+octet-most : (b c : Bool) → boolByte b * 8 + 2 + boolByte c ≤ 11
+octet-most true true = omega arith
+octet-most true false = omega arith
+octet-most false true = omega arith
+octet-most false false = omega arith
+
+module _ (b : Bool) where
+  pub scaling-fits : Fits w8 (boolByte b * 8)
+  scaling-fits = record { fits = omega (arith, octet-most b false) }
+
+  pub class-fits : Fits w8 (boolByte b * 8 + 2)
+  class-fits = record { fits = omega (arith, octet-most b false) }
+
+  pub octet-fits : (c : Bool) → Fits w8 (boolByte b * 8 + 2 + boolByte c)
+  octet-fits c = record { fits = omega (arith, octet-most b c) }
+
+pub parameters-is : (s : Setup) → Class2 (boolByte (s .scaling) * 8 + 2 + boolByte (s .reversed)) (record { 0 = s .units }) (record { 0 = s .range }) ≡ parametersOf s
+parameters-is s = ap (λ (o : ℕ). Class2 o (record { 0 = s .units }) (record { 0 = s .range })) (octet-is (s .scaling) (s .reversed))
+
+pub unstarted-is : (g : Stage) (s : Setup) (n : Nameplate) (p : Parameters) → n ≡ plateOf s → p ≡ parametersOf s
+    → record { stage = g; axis = fresh n p nowhere } ≡ unstarted g s
+unfolding unstarted
+unstarted-is g s n p n-is p-is = rw (n-is, p-is)
+
+pub first-is : (a : Axis) (raw : ℕ) (q : Sensed) (x : Next) → q ≡ sensed (a .nameplate) raw → x ≡ start (a .nameplate) (a .parameters) (q .step .0) (q .turn .0)
+    → x ≡ first a raw
+unfolding first
+first-is a raw q x q-is x-is = x-is ∙ ap (λ (k : Sensed). start (a .nameplate) (a .parameters) (k .step .0) (k .turn .0)) q-is
+
+-- ---- the position
+module _ (a : Axis) (q : Reported) (e : q ≡ reported a) where
+  pub shown-at : (p u : Units) → q ≡ Found p u → At (p .0) ≡ shown a
+  unfolding shown
+  shown-at p u v = rw (← e, v)
+
+  pub shown-outside : (n : ℕ) → q ≡ Outside n → Refused n ≡ shown a
+  unfolding shown
+  shown-outside n v = rw (← e, v)
+
+-- ---- after a call
+module _ (s : State) (x : Next) where
+  pub after-refused : (r : Reply) → (x .refusal ≡ 0 → ⊥) → r ≡ refused s (x .refusal) → r ≡ after s x
+  unfolding after
+  after-refused r h e = e ∙ sym (refused-is (refused s) (taken (x .axis)) (x .refusal) h)
+
+  pub after-taken : (a : Answer) → x .refusal ≡ 0 → a ≡ shown (x .axis)
+      → record { state = record { stage = Started; axis = x .axis }; answer = a } ≡ after s x
+  unfolding after
+  after-taken a z e = rw (z, e)
+
+-- ---- an axis form
+module _ (s : State) (f : Setup) (t : State) (n : ℕ) where
+  number-is : n ≡ refusalOn (t .axis .nameplate) (t .axis .parameters) → t ≡ unstarted Waiting f → n ≡ refusalOn (plateOf f) (parametersOf f)
+  unfolding unstarted
+  number-is n-is t-is = n-is ∙ ap (λ (k : State). refusalOn (k .axis .nameplate) (k .axis .parameters)) t-is
+
+  pub set-up-refused : (r : Reply) → (n ≡ 0 → ⊥) → r ≡ refused s n → n ≡ refusalOn (t .axis .nameplate) (t .axis .parameters)
+      → t ≡ unstarted Waiting f → r ≡ setUp s f
+  unfolding setUp
+  set-up-refused r h e n-is t-is = e ∙ sym (refused-is (refused s) (ready f) n h) ∙ ap (answer (refused s) (ready f)) (number-is n-is t-is)
+
+  pub set-up-ready : n ≡ 0 → n ≡ refusalOn (t .axis .nameplate) (t .axis .parameters) → t ≡ unstarted Waiting f
+      → record { state = t; answer = Ready } ≡ setUp s f
+  unfolding setUp
+  set-up-ready z n-is t-is = rw (← number-is n-is t-is, z, t-is)
+
+-- ---- a reading
+module _ (s : State) (raw : ℕ) (r : Reply) where
+  pub read-none : s .stage ≡ NoAxis → r ≡ refused s 16 → r ≡ read s raw
+  unfolding read
+  read-none v e = e ∙ sym (ap (λ (g : Stage). readAt g s raw) v)
+
+  module _ (x : Next) (e : r ≡ after s x) where
+    pub read-first : s .stage ≡ Waiting → x ≡ first (s .axis) raw → r ≡ read s raw
+    unfolding read
+    read-first v x-is = e ∙ ap (after s) x-is ∙ sym (ap (λ (g : Stage). readAt g s raw) v)
+
+    pub read-next : s .stage ≡ Started → x ≡ readRaw (s .axis) raw → r ≡ read s raw
+    unfolding read
+    read-next v x-is = e ∙ ap (after s) x-is ∙ sym (ap (λ (g : Stage). readAt g s raw) v)
+
+-- ---- a preset
+module _ (s : State) (v : ℤ) (r : Reply) where
+  pub preset-none : s .stage ≡ NoAxis → r ≡ refused s 16 → r ≡ preset s v
+  unfolding preset
+  preset-none w e = e ∙ sym (ap (λ (g : Stage). presetAt g s v) w)
+
+  pub preset-waiting : s .stage ≡ Waiting → r ≡ refused s 16 → r ≡ preset s v
+  unfolding preset
+  preset-waiting w e = e ∙ sym (ap (λ (g : Stage). presetAt g s v) w)
+
+  pub preset-made : (x : Next) → r ≡ after s x → s .stage ≡ Started → x ≡ presetOn (s .axis) (toZ w64 (ofZ w64 v)) false → SFits w64 v → r ≡ preset s v
+  unfolding preset
+  preset-made x e w x-is fits = e ∙ ap (after s) (rw (reads fits) at x-is) ∙ sym (ap (λ (g : Stage). presetAt g s v) w)
+
+-- ---- each form
+module _ (s : State) (f : Form) (r : Reply) where
+  pub reply-axis : (u : Setup) → f ≡ AxisForm u → r ≡ setUp s u → r ≡ reply s f
+  unfolding reply
+  reply-axis u v e = rw (v, e)
+
+  pub reply-read : (raw : ℕ) → f ≡ Read raw → r ≡ read s raw → r ≡ reply s f
+  unfolding reply
+  reply-read raw v e = rw (v, e)
+
+  pub reply-preset : (z : ℤ) → f ≡ Preset z → r ≡ preset s (toZ w64 (ofZ w64 z)) → SFits w64 z → r ≡ reply s f
+  unfolding reply
+  reply-preset z v e fits = rw (v, e, reads fits)
+
+  pub reply-nothing : f ≡ Nothing → r ≡ refused s 15 → r ≡ reply s f
+  unfolding reply
+  reply-nothing v e = rw (v, e)
+
+pub ruleset replies = (
+  scaling-fits,
+  class-fits,
+  octet-fits,
+  parameters-is,
+  unstarted-is,
+  first-is,
+  shown-at,
+  shown-outside,
+  after-refused,
+  after-taken,
+  set-up-refused,
+  set-up-ready,
+  read-none,
+  read-first,
+  read-next,
+  preset-none,
+  preset-waiting,
+  preset-made,
+  reply-axis,
+  reply-read,
+  reply-preset,
+  reply-nothing,
+)

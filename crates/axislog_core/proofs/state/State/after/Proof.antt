@@ -1,0 +1,15 @@
+-- By the laws of StateLaws, one for each way out.
+-- Assumes nothing.
+use borrow.Author.Needs.{needs}
+use Rattle.axislog_core.proofs.StateLaws.{replies}
+use Rattle.axislog_core.proofs.state.State.after.Statement.{statement}
+use Rattle.axislog_core.proofs.state.State.after.Tie as tie
+
+pub after-spec : {M : Type 1} → statement M
+after-spec =
+    tie.close
+    (tie.spec
+    (λ c κs. search (needs, replies))
+    (λ c. search (needs, replies))
+    (λ c κs. search (needs, replies))
+    (λ c. search (needs, replies)))

@@ -1,0 +1,16 @@
+-- By the laws of StateLaws, one for each way out.
+-- Assumes nothing.
+use borrow.Author.Needs.{needs}
+use Rattle.axislog_core.proofs.StateLaws.{replies}
+use Rattle.axislog_core.proofs.state.shown.Statement.{statement}
+use Rattle.axislog_core.proofs.state.shown.Tie as tie
+
+pub shown-spec : {M : Type 1} → statement M
+shown-spec =
+    tie.close
+    (tie.spec
+    (λ c κs. search (needs, replies))
+    (λ c. search (needs, replies))
+    (λ c. search (needs, replies))
+    (λ c. search (needs, replies))
+    (λ c. search (needs, replies)))

@@ -1,0 +1,43 @@
+-- The answers to a log, one a line (document 01, "The program axislog").
+-- Assumes nothing.
+use Prim.Native.Nat.{ℕ}
+use mathlib.Core.List.{List, [], _∷_, _++_}
+use mathlib.Core.Bool.{cond, not}
+use lib.Dec.{eqb, ltb}
+use lib.ListN.{length}
+use Rattle.integer.specs.Text.{over}
+use Rattle.encoder.specs.Refusal.{noForm, wrongBuffer, when, answer}
+use Rattle.forms.specs.Form.{form}
+use Rattle.answers.specs.declared.Answer.the-variants.{Refused as AnswerRefused}
+use Rattle.answers.specs.Answer.{text}
+use Rattle.axislog_core.specs.declared.state.State.{State}
+use Rattle.axislog_core.specs.declared.Outcome.{Outcome}
+use Rattle.axislog_core.specs.declared.Outcome.the-variants.{Written, Refused}
+use Rattle.axislog_core.specs.State.{empty, reply}
+
+-- an octet in front of the first line; where there is none yet, it is a line
+abbrev pub joined : ℕ → List (List ℕ) → List (List ℕ)
+joined x [] = (x ∷ []) ∷ []
+joined x (l ∷ ls) = (x ∷ l) ∷ ls
+
+-- the lines of a text: each ends at a newline, the last one perhaps at the end of the text
+unfoldable pub lines : List ℕ → List (List ℕ)
+lines [] = []
+lines (x ∷ xs) = cond (eqb x 10) ([] ∷ lines xs) (joined x (lines xs))
+
+-- the answers to lines, from a state on
+unfoldable pub answersFrom : State → List (List ℕ) → List ℕ
+answersFrom s [] = []
+answersFrom s (l ∷ ls) = text (reply s (form l) .answer) ++ answersFrom (reply s (form l) .state) ls
+
+-- the whole output; input above 60,000 octets gets one answer
+unfoldable pub answers : List ℕ → List ℕ
+answers input = cond (ltb 60000 (length input)) (text (AnswerRefused noForm)) (answersFrom empty (lines input))
+
+-- 13: the lent buffer has 780,000 octets, 13 for each octet of input
+unfoldable pub outcome : List ℕ → List ℕ → Outcome
+outcome input output = answer Refused (Written (length (answers input))) (when (not (eqb (length output) 780000)) wrongBuffer)
+
+-- the buffer then: the answers at its start, and what was behind them
+unfoldable pub written : List ℕ → List ℕ → List ℕ
+written input output = cond (eqb (length output) 780000) (over (answers input) output) output

@@ -1,0 +1,73 @@
+// What axislog answers to a log (document 01, "The program axislog").
+mod state;
+
+ghost use mathlib.Core.Path.{_≡_};
+ghost use mathlib.Core.List.{_++_};
+ghost use Prim.Native.Nat.{_+_, _≤_};
+ghost use lib.ListN.{length, take};
+ghost use Rattle.integer.specs.Text.{over};
+ghost use Rattle.answers.specs.Answer.{text};
+ghost use Rattle.axislog_core.specs.Log.{answers, outcome, written};
+use crate::state::State;
+use answers::Answer;
+use bytes::scan::find;
+use encoder::refusal;
+use forms::parse;
+
+// The octets of the longest log that is answered line by line.
+pub const INPUT: usize = 60_000;
+
+// The octets of the lent buffer. An empty line costs one octet and is answered with thirteen, and no line has more for each of its octets.
+pub const OUTPUT: usize = 780_000;
+
+pub enum Outcome {
+    // so many octets, from the start of the buffer on
+    Written(usize),
+    Refused(u8),
+}
+
+// A refused call leaves the buffer as it was, and so does an accepted one what lies behind the answers.
+pub fn answer(input: &[u8], output: &mut [u8]) -> Outcome
+    ensures { λ r. ⌜ (r ≡ outcome (now (input .entry)) (now (output .entry)))
+        × (now (output .exit) ≡ written (now (input .entry)) (now (output .entry))) ⌝ }
+{
+    if output.len() != OUTPUT {
+        return Outcome::Refused(refusal::BUFFER);
+    }
+    if INPUT < input.len() {
+        return Outcome::Written(put(Answer::Refused(refusal::FORM), output, 0));
+    }
+    Outcome::Written(each_line(input, output))
+}
+
+// The answers to all lines.
+fn each_line(input: &[u8], output: &mut [u8]) -> usize
+    requires { ⌜ (length (now input) ≤ 60000) × (length (now output) ≡ 780000) ⌝ }
+    ensures { λ r. ⌜ (r ≡ length (answers (now (input .entry))))
+        × (now (output .exit) ≡ over (answers (now (input .entry))) (now (output .entry))) ⌝ }
+{
+    let mut state = State::empty();
+    let mut from = 0;
+    let mut at = 0;
+    while from < input.len() {
+        let end = find(input, from, input.len(), b'\n');
+        let reply = state.reply(parse(&input[from..end]));
+        let answer = reply.answer;
+        at = put(answer, output, at);
+        state = reply.state;
+        from = end + 1;
+    }
+    at
+}
+
+// Writes the line of an answer, and answers where the next one begins.
+fn put(answer: Answer, output: &mut [u8], at: usize) -> usize
+    requires { ⌜ at + length (text answer) ≤ length (now output) ⌝ }
+    ensures { λ r. ⌜ (r ≡ at + length (text answer))
+        × (now (output .exit) ≡ over (take at (now (output .entry)) ++ text answer) (now (output .entry))) ⌝ }
+{
+    let line = answer.line();
+    let n = line.length;
+    let octets = line.octets;
+    at + bytes::copy(&octets[..n], &mut output[at..])
+}

@@ -1,0 +1,197 @@
+// The axis of a log, and what a form does to it.
+ghost use mathlib.Core.Path.{_≡_};
+ghost use Rattle.axislog_core.specs.State.{empty, unstarted, plateOf, parametersOf, first, shown, refused, after, setUp, read, preset, reply};
+use answers::Answer;
+use axis::Axis;
+use axis::Next;
+use axis::Reported;
+use encoder::nameplate::Nameplate;
+use encoder::parameters::Parameters;
+use encoder::quantity::Steps;
+use encoder::quantity::Turns;
+use encoder::quantity::Units;
+use encoder::refusal;
+use forms::Form;
+use forms::Setup;
+use sensor::sense;
+use travel::Travel;
+
+pub enum Stage {
+    // no axis form was accepted yet
+    NoAxis,
+    // one was, and its first accepted reading is to come
+    Waiting,
+    Started,
+}
+
+// Before its first reading an axis has a nameplate and parameters only.
+pub struct State {
+    pub stage: Stage,
+    pub axis: Axis,
+}
+
+pub struct Reply {
+    pub state: State,
+    pub answer: Answer,
+}
+
+impl State {
+    // Before the first line.
+    pub(crate) fn empty() -> State
+        ensures { λ r. ⌜ r ≡ empty ⌝ }
+    {
+        State::unstarted(
+            Stage::NoAxis,
+            Setup {
+                steps: 0,
+                turns: 0,
+                reversed: false,
+                scaling: false,
+                units: 0,
+                range: 0,
+            },
+        )
+    }
+
+    // What a form does to the axis, and its answer.
+    pub(crate) fn reply(self, form: Form) -> Reply
+        ensures { λ r. ⌜ r ≡ reply self form ⌝ }
+    {
+        match form {
+            Form::Axis(setup) => self.set_up(setup),
+            Form::Read(raw) => self.read(raw),
+            Form::Preset(value) => self.preset(value),
+            Form::Nothing => self.refused(refusal::FORM),
+        }
+    }
+
+    // An axis form that is refused keeps the former axis.
+    fn set_up(self, setup: Setup) -> Reply
+        ensures { λ r. ⌜ r ≡ setUp self setup ⌝ }
+    {
+        let state = State::unstarted(Stage::Waiting, setup);
+        let axis = state.axis;
+        let plate = axis.nameplate;
+        let parameters = axis.parameters;
+        let n = parameters.refusal(plate);
+        if n != 0 {
+            return self.refused(n);
+        }
+        Reply {
+            state,
+            answer: Answer::Ready,
+        }
+    }
+
+    fn read(self, raw: u32) -> Reply
+        ensures { λ r. ⌜ r ≡ read self raw ⌝ }
+    {
+        let stage = self.stage;
+        let axis = self.axis;
+        match stage {
+            Stage::NoAxis => self.refused(refusal::NO_AXIS),
+            Stage::Waiting => self.after(first(axis, raw)),
+            Stage::Started => self.after(axis.read_raw(raw)),
+        }
+    }
+
+    // Presets are absolute.
+    fn preset(self, value: i64) -> Reply
+        ensures { λ r. ⌜ r ≡ preset self value ⌝ }
+    {
+        let stage = self.stage;
+        let axis = self.axis;
+        match stage {
+            Stage::NoAxis => self.refused(refusal::NO_AXIS),
+            Stage::Waiting => self.refused(refusal::NO_AXIS),
+            Stage::Started => self.after(axis.preset(value, false)),
+        }
+    }
+
+    // After a call on the axis.
+    fn after(self, next: Next) -> Reply
+        ensures { λ r. ⌜ r ≡ after self next ⌝ }
+    {
+        if next.refusal != 0 {
+            return self.refused(next.refusal);
+        }
+        let axis = next.axis;
+        Reply {
+            state: State {
+                stage: Stage::Started,
+                axis,
+            },
+            answer: shown(axis),
+        }
+    }
+
+    fn refused(self, n: u8) -> Reply
+        ensures { λ r. ⌜ r ≡ refused self n ⌝ }
+    {
+        let state = self;
+        Reply {
+            state,
+            answer: Answer::Refused(n),
+        }
+    }
+
+    // An axis without a reading.
+    fn unstarted(stage: Stage, setup: Setup) -> State
+        ensures { λ r. ⌜ r ≡ unstarted stage setup ⌝ }
+    {
+        let axis = Axis {
+            nameplate: nameplate(setup),
+            parameters: parameters(setup),
+            travel: Travel::NOWHERE,
+            offset: 0,
+            preset: 0,
+            stored: 0,
+        };
+        State { stage, axis }
+    }
+}
+
+// The plate's other fields are zero.
+fn nameplate(setup: Setup) -> Nameplate
+    ensures { λ r. ⌜ r ≡ plateOf setup ⌝ }
+{
+    Nameplate {
+        steps: Steps(setup.steps as u64),
+        turns: Turns(setup.turns),
+        ident: 0,
+        software: [0; 2],
+        serial: [0; 10],
+    }
+}
+
+// Class 2 is on.
+fn parameters(setup: Setup) -> Parameters
+    ensures { λ r. ⌜ r ≡ parametersOf setup ⌝ }
+{
+    Parameters::Class2 {
+        operating: setup.scaling as u8 * 8 + 2 + setup.reversed as u8,
+        units: Units(setup.units),
+        range: Units(setup.range),
+    }
+}
+
+// An axis at its first raw number.
+fn first(axis: Axis, raw: u32) -> Next
+    ensures { λ r. ⌜ r ≡ first axis raw ⌝ }
+{
+    let plate = axis.nameplate;
+    let parameters = axis.parameters;
+    let sensed = sense(plate, raw);
+    Axis::start(plate, parameters, sensed.step, sensed.turn)
+}
+
+// The position of an axis.
+fn shown(axis: Axis) -> Answer
+    ensures { λ r. ⌜ r ≡ shown axis ⌝ }
+{
+    match axis.position() {
+        Reported::At { position, .. } => Answer::At(position.0),
+        // never: a call that is taken leaves the axis within its limits
+        Reported::Refused(n) => Answer::Refused(n),
+    }
+}

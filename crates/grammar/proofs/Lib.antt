@@ -1,0 +1,3 @@
+pub mod ReadsBack
+pub mod ReadsOnly
+pub mod Exact

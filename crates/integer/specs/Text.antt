@@ -1,0 +1,15 @@
+-- A quoted text as its octets: in ASCII, the codes of its characters.
+-- Assumes nothing.
+use Prim.Native.Nat.{ℕ}
+use Prim.Native.Char.{code}
+use Prim.Native.String.{String, [] as []ˢ, _∷_ as _∷ˢ_}
+use mathlib.Core.List.{List, [], _∷_, _++_}
+use lib.ListN.{length, drop}
+
+abbrev pub ascii : String → List ℕ
+ascii []ˢ = []
+ascii (c ∷ˢ text) = code c ∷ ascii text
+
+-- a text written at the start of a buffer
+abbrev pub over : List ℕ → List ℕ → List ℕ
+over text buffer = text ++ drop (length text) buffer
