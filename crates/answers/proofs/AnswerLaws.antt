@@ -60,8 +60,8 @@ module _ (word d : List ℕ) (n k a : ℕ) (fits : Fits w32 n) (w : Fewest 10 1 
       numbered-is u l o u-is l-is o-is =
           let s = word ++ take k d in
           let long : length s ≡ a + m = rw (length-append, a-is, m-is) in
-          let v-is = over-next word (take k d) zeros u l a (16 - a) (sym a-is) (omega (arith, most)) (over-first word zeros u u-is) l-is in
-          let done = over-next s (ascii ")\n") zeros _ o (a + m) (16 - (a + m)) long (omega (arith, most)) v-is o-is in
+          let v-is = over-next word zeros u a (sym a-is) (over-first word zeros u u-is) (take k d) l (16 - a) (omega (arith, most)) l-is in
+          let done = over-next s zeros _ (a + m) long v-is (ascii ")\n") o (16 - (a + m)) (omega (arith, most)) o-is in
           rw (done, r-is, ← long, ← number-is, length-append s)
 
 -- ---- the three answers

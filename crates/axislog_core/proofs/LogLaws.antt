@@ -6,15 +6,15 @@ use mathlib.Core.Bool.{Bool, true, false, cond}
 use Prim.Native.Nat.{ℕ, suc, _+_, _-_, _≤_, _<_}
 use native.Mathlib.Omega.{arith}
 use lib.Dec.{eqb}
-use lib.ListN.{length, take, drop, length-drop, length-append, drop-of-length-le, take-append-drop}
-use lib.Seq.{drop-drop, take-length, length-take-le}
+use lib.ListN.{length, take, drop, length-drop, length-append, drop-of-length-le}
+use lib.Seq.{drop-drop, take-length}
 use borrow.Author.Tests.{le-ltb}
 use borrow.Rule.Slice.PartMut.{putMid}
 use mir.Syntax.{w64}
 use mir.Val.{Fits}
 use Rattle.bytes.specs.Bytes.{indexAfter, indexOf, slice}
 use Rattle.integer.specs.Text.{over}
-use Rattle.integer.proofs.Text.{over-next, over-again}
+use Rattle.integer.proofs.Text.{part-over, over-again}
 use Rattle.forms.specs.declared.Form.{Form}
 use Rattle.forms.specs.Form.{form}
 use Rattle.answers.specs.declared.Answer.{Answer}
@@ -65,10 +65,7 @@ module _ (a : Answer) (r : Line) (r-is : r ≡ line a) (b : List ℕ) (at : ℕ)
   pub put-is : (l : List ℕ)
       → l ≡ take (length (take (r .length) (r .octets))) (take (r .length) (r .octets)) ++ drop (length (take (r .length) (r .octets))) (take (length b - at) (drop at b))
       → putMid at (length b - at) b l ≡ over (take at b ++ text a) b
-  put-is l l-is =
-      let e : length (take at b) ≡ at = length-take-le at b (omega arith) in
-      let u : b ≡ over (take at b) b = rw e (sym (take-append-drop at b)) in
-      rw (line-text a r r-is) at (over-next (take at b) (take (r .length) (r .octets)) b b l at (length b - at) e (omega (arith, long)) u l-is)
+  put-is l l-is = rw (line-text a r r-is) at (part-over b (take (r .length) (r .octets)) l at (length b - at) (omega arith) (omega (arith, long)) l-is)
 
 -- ---- the loop: `done` is written so far
 pub record Running (input out₀ out : List ℕ) (from at : ℕ) (s : State) : Type 0 where
@@ -109,7 +106,7 @@ module _ (input out₀ out : List ℕ) (from at : ℕ) (s : State) (inv : Runnin
       done = inv .done ++ text (q .answer);
       at-is = at'-is ∙ rw (inv .at-is, length-append);
       same = l ∙ inv .same;
-      out-is = out'-is ∙ over-again (inv .done) (text (q .answer)) out₀ out at (sym (inv .at-is)) (inv .out-is);
+      out-is = out'-is ∙ over-again (inv .done) out₀ out at (sym (inv .at-is)) (inv .out-is) (text (q .answer));
       total = append-assoc (inv .done) (text (q .answer)) _ ∙ rest;
     }
 

@@ -1,14 +1,15 @@
 -- What a form does to the axis of a log, one law for each way out.
 -- Assumes nothing.
-use mathlib.Core.Path.{_≡_, refl, sym, ap, _∙_}
+use mathlib.Core.Path.{_≡_, sym, ap, _∙_}
 use mathlib.Core.Bool.{Bool, true, false}
-use Prim.Native.Nat.{ℕ, _+_, _*_, _≤_}
+use Prim.Native.Nat.{ℕ, _+_, _*_}
 use lib.IntN.{ℤ}
 use native.Mathlib.Omega.{arith}
 use mir.Syntax.{w8, w64}
 use mir.Val.{Fits, SFits, toZ, ofZ, boolByte}
 use Rattle.integer.specs.Bits.{at}
 use Rattle.integer.proofs.Size.{reads}
+use Rattle.integer.proofs.Bits.{flag-lt, at-is}
 use Rattle.encoder.specs.declared.nameplate.Nameplate.{Nameplate}
 use Rattle.encoder.specs.declared.parameters.Parameters.{Parameters}
 use Rattle.encoder.specs.declared.parameters.Parameters.the-variants.{Class2}
@@ -39,26 +40,17 @@ use Rattle.axislog_core.specs.State.{plateOf, parametersOf, unstarted, s
 
 -- ---- plate and parameters
 octet-is : (b c : Bool) → boolByte b * 8 + 2 + boolByte c ≡ at b 3 + at true 1 + at c 0
-octet-is true true = refl
-octet-is true false = refl
-octet-is false true = refl
-octet-is false false = refl
-
-octet-most : (b c : Bool) → boolByte b * 8 + 2 + boolByte c ≤ 11
-octet-most true true = omega arith
-octet-most true false = omega arith
-octet-most false true = omega arith
-octet-most false false = omega arith
+octet-is b c = rw (at-is b 3, at-is c 0) (omega arith)
 
 module _ (b : Bool) where
   pub scaling-fits : Fits w8 (boolByte b * 8)
-  scaling-fits = record { fits = omega (arith, octet-most b false) }
+  scaling-fits = record { fits = omega (arith, flag-lt b) }
 
   pub class-fits : Fits w8 (boolByte b * 8 + 2)
-  class-fits = record { fits = omega (arith, octet-most b false) }
+  class-fits = record { fits = omega (arith, flag-lt b) }
 
   pub octet-fits : (c : Bool) → Fits w8 (boolByte b * 8 + 2 + boolByte c)
-  octet-fits c = record { fits = omega (arith, octet-most b c) }
+  octet-fits c = record { fits = omega (arith, flag-lt b, flag-lt c) }
 
 pub parameters-is : (s : Setup) → Class2 (boolByte (s .scaling) * 8 + 2 + boolByte (s .reversed)) (record { 0 = s .units }) (record { 0 = s .range }) ≡ parametersOf s
 parameters-is s = ap (λ (o : ℕ). Class2 o (record { 0 = s .units }) (record { 0 = s .range })) (octet-is (s .scaling) (s .reversed))
@@ -127,13 +119,9 @@ module _ (s : State) (raw : ℕ) (r : Reply) where
 
 -- ---- a preset
 module _ (s : State) (v : ℤ) (r : Reply) where
-  pub preset-none : s .stage ≡ NoAxis → r ≡ refused s 16 → r ≡ preset s v
+  pub preset-none : (g : Stage) → s .stage ≡ g → presetAt g s v ≡ refused s 16 → r ≡ refused s 16 → r ≡ preset s v
   unfolding preset
-  preset-none w e = e ∙ sym (ap (λ (g : Stage). presetAt g s v) w)
-
-  pub preset-waiting : s .stage ≡ Waiting → r ≡ refused s 16 → r ≡ preset s v
-  unfolding preset
-  preset-waiting w e = e ∙ sym (ap (λ (g : Stage). presetAt g s v) w)
+  preset-none g w n e = e ∙ sym (ap (λ (h : Stage). presetAt h s v) w ∙ n)
 
   pub preset-made : (x : Next) → r ≡ after s x → s .stage ≡ Started → x ≡ presetOn (s .axis) (toZ w64 (ofZ w64 v)) false → SFits w64 v → r ≡ preset s v
   unfolding preset
@@ -174,7 +162,6 @@ pub ruleset replies = (
   read-first,
   read-next,
   preset-none,
-  preset-waiting,
   preset-made,
   reply-axis,
   reply-read,

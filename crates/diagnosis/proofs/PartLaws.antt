@@ -14,6 +14,7 @@ use borrow.Author.Tests.{ltb-true, leb-true}
 use borrow.Rule.Slice.PartMut.{putMid, postOf}
 use mir.Syntax.{w32, w64}
 use mir.Val.{Fits, SFits, toZ, ofZ, boolByte}
+use Rattle.integer.proofs.Bits.{flag}
 use Rattle.integer.specs.Bits.{bit, at}
 use Rattle.integer.specs.Octets.{octets}
 use Rattle.integer.proofs.Octets.{firsts, known}
@@ -82,10 +83,6 @@ module _ (g : Fields) where
   shown-two t = rw t
 
 -- ---- octets 7 to 16
-flag : (b : Bool) → boolByte b ≡ cond b 1 0
-flag true = refl
-flag false = refl
-
 flag-not : (b : Bool) → boolByte (not b) ≡ cond b 0 1
 flag-not true = refl
 flag-not false = refl

@@ -1,4 +1,5 @@
--- The forms of a line (document 01, "The program axislog").
+-- The forms of a line (document 01, "The program axislog"), as they are found in it from left to right. How each is written stands in
+-- crates/grammar/specs/Grammar.antt, where it is proved that just these lines are forms.
 -- Assumes nothing.
 use Prim.Native.Nat.{ℕ}
 use mathlib.Core.List.{List}

@@ -1,3 +1,5 @@
 pub mod ReadsBack
+pub mod Decimals
+pub mod Found
 pub mod ReadsOnly
 pub mod Exact

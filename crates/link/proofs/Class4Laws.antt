@@ -7,6 +7,7 @@ use native.Mathlib.Omega.{arith}
 use native.Mathlib.Nat as N
 use lib.Bits.{bitOr, or-shifted}
 use mir.Val.{boolByte}
+use Rattle.integer.proofs.Bits.{flag-lt, at-is}
 use Rattle.integer.specs.Bits.{bit, at}
 use Rattle.encoder.specs.declared.effect.InForce.{InForce}
 use Rattle.encoder.proofs.PlateLaws.{and-split}
@@ -66,14 +67,6 @@ or-word a b c d e ha hb hc hd he =
     )
     (omega arith)
 
-one : (b : Bool) → boolByte b < 2
-one true = omega arith
-one false = omega arith
-
-at-is : (b : Bool) (n : ℕ) → at b n ≡ boolByte b * 2 ^ n
-at-is true n = omega arith
-at-is false n = omega arith
-
 pub zsw-is : (k : Link) (w : ℕ) (parked : Bool) → parked ≡ bit 14 w
     → bitOr
     (bitOr
@@ -83,7 +76,7 @@ pub zsw-is : (k : Link) (w : ℕ) (parked : Bool) → parked ≡ bit 14 w
     ≡ zsw k w
 unfolding zsw
 zsw-is k w parked p-is =
-    or-word _ _ _ _ _ (one (k .error)) (one parked) (one (not (k .error))) (one (k .executed)) (one (k .acknowledged))
+    or-word _ _ _ _ _ (flag-lt (k .error)) (flag-lt parked) (flag-lt (not (k .error))) (flag-lt (k .executed)) (flag-lt (k .acknowledged))
     ∙ rw (← p-is, at-is (k .error) 15, at-is parked 14, at-is (not (k .error)) 13, at-is (k .executed) 12, at-is (k .acknowledged) 11)
 
 pub ruleset four = (held-acknowledged, held-on, made-is, linked-is, zsw-is)

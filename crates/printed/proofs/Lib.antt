@@ -1,1 +1,4 @@
+pub mod Beside
+pub mod Calls
+pub mod First
 pub mod Printed
