@@ -164,7 +164,8 @@ def stored():
 
 def runs():
     text = b"".join(b"# " + name.encode() + b"\n" + answers(log) for name, log in stored())
-    return text + b"# a buffer too short, and one too long\n" + b"turned away with 13\n" * 2
+    text += b"# a buffer too short, and one too long\n" + b"turned away with 13\n" * 2
+    return text + b"# a buffer too short, and a log too long\nturned away with 15\n"
 
 
 def check(program):

@@ -34,7 +34,7 @@ module _ (d : Device) (s : Sound (force d)) where
       let t = h .times in
       let e = modulo-alike y m {n = c} (above t) (below t) (s .capacity-least)
       (omega (signed, add-is y (t *ℤ pos c), mul-is t (pos c), of-eq (h .same))) in
-      shorter-only f last raw m (h .small) e
+      shorter-only f last raw m (omega (signed, h .small)) e
 
   -- and the shorter way is as supposed
   found : (last raw : ℕ) → moveRefusal (force d) last raw ≡ 0 → Shows d last raw (moveOf (force d) last raw)
@@ -49,7 +49,7 @@ module _ (d : Device) (s : Sound (force d)) where
       let q = modulo-has y {n = c} (s .capacity-least) in
       let t = pos (p .1 + q .0) -ℤ pos (p .0 + q .1) in
       let i = is-times c (is-less (p .1 + q .0) (p .0 + q .1)) in
-      record { small = w .0; times = t; same = omega (signed, add-is y (t *ℤ pos c), i .is, p .2, q .2, w .1) }
+      record { small = omega (signed, w .0); times = t; same = omega (signed, add-is y (t *ℤ pos c), i .is, p .2, q .2, w .1) }
 
   pub met : (last : ℕ) (raws : List ℕ) → refusalIn (force d) last raws ≡ 0 → Supposed d last raws (steps d last raws)
   unfolding refusalIn Supposed

@@ -1,6 +1,6 @@
 -- Start and reading: each way out, by the answers of the calls on that way.
 -- Assumes nothing.
-use mathlib.Core.Path.{_≡_, sym, _∙_}
+use mathlib.Core.Path.{_≡_, sym, ap, _∙_}
 use Prim.Native.Nat.{ℕ, _<_}
 use native.Mathlib.Omega.{arith}
 use Rattle.encoder.specs.declared.nameplate.Nameplate.{Nameplate}
@@ -11,7 +11,8 @@ use Rattle.encoder.specs.declared.effect.Effect.the-variants.{Taken, Refused as
 use Rattle.sensor.specs.declared.Reading.{Reading}
 use Rattle.sensor.specs.declared.Reading.the-variants.{Number, Refused as NotRead}
 use Rattle.encoder.specs.Refusal.{_before_}
-use Rattle.sensor.specs.Reading.{rawOf, stepRefusal, numbered}
+use Rattle.sensor.specs.declared.Sensed.{Sensed}
+use Rattle.sensor.specs.Reading.{rawOf, stepRefusal, numbered, sensed}
 use Rattle.encoder.specs.Nameplate.{capacityOf}
 use Rattle.encoder.specs.Parameters.{fieldsOf}
 use Rattle.encoder.specs.InForce.{rulesOf, inForce, Sound}
@@ -28,7 +29,7 @@ use Rattle.travel.proofs.TravelLaws.{moved-kept, read-refusal, to-taken, to-ref
 use Rattle.axis.specs.declared.Axis.{Axis}
 use Rattle.axis.specs.declared.Next.{Next}
 use Rattle.axis.specs.Axis.{rulesOn, axisRefusal, inForceOn, Ready}
-use Rattle.axis.specs.Reading.{accepted, refused, next, fresh, startRefusal, start, travelled, atRaw, readRawRefusal, readRaw, readRefusal, read}
+use Rattle.axis.specs.Reading.{accepted, refused, next, fresh, startRefusal, start, startRaw, travelled, atRaw, readRawRefusal, readRaw, readRefusal, read}
 use Rattle.axis.proofs.AxisLaws.{Limits, limits-none, ready-of, outside-of, stands-none}
 
 -- ---- the first refusal is the answer
@@ -161,4 +162,9 @@ module _ (n : Nameplate) (p : Parameters) (e : Effect) where
           let j = reading-taken n s t q raw g q-is in
           w ∙ rw (i .0, j .0, i .1, j .1)
 
-pub ruleset starts = (unstarted-is, begin-to, begin-never, start-sound, start-lt, start-parameters, start-reading, start-to)
+-- a raw number, by its step and turn
+pub start-raw-is : (n : Nameplate) (p : Parameters) (raw : ℕ) (q : Sensed) (x : Next) → q ≡ sensed n raw → x ≡ start n p (q .step .0) (q .turn .0) → x ≡ startRaw n p raw
+unfolding startRaw
+start-raw-is n p raw q x q-is x-is = x-is ∙ ap (λ (k : Sensed). start n p (k .step .0) (k .turn .0)) q-is
+
+pub ruleset starts = (unstarted-is, begin-to, begin-never, start-sound, start-lt, start-parameters, start-reading, start-to, start-raw-is)

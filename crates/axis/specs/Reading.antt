@@ -5,7 +5,7 @@ use lib.IntN.{pos}
 use Rattle.encoder.specs.declared.nameplate.Nameplate.{Nameplate}
 use Rattle.encoder.specs.declared.parameters.Parameters.{Parameters}
 use Rattle.encoder.specs.Refusal.{_before_, answer}
-use Rattle.sensor.specs.Reading.{rawOf, stepRefusal}
+use Rattle.sensor.specs.Reading.{rawOf, stepRefusal, sensed}
 use Rattle.encoder.specs.Parameters.{fieldsOf, refusalOn}
 use Rattle.encoder.specs.InForce.{rulesOf}
 use Rattle.travel.specs.declared.Travel.{Travel}
@@ -35,6 +35,10 @@ startRefusal n p s t = refusalOn n p before stepRefusal n s t
 -- what a refused start leaves is no started axis: every call on it gets 16
 unfoldable pub start : Nameplate → Parameters → ℕ → ℕ → Next
 start n p s t = next (fresh n p nowhere) (startRefusal n p s t) (fresh n p (started (rulesOf n (fieldsOf p)) (rawOf n s t)))
+
+-- the same from a raw number, by the step and the turn that it stands for: 9 where there is no such raw number
+unfoldable pub startRaw : Nameplate → Parameters → ℕ → Next
+startRaw n p raw = start n p (sensed n raw .step .0) (sensed n raw .turn .0)
 
 -- 3. an axis that has moved
 abbrev pub travelled : Axis → Travel → Axis

@@ -4,7 +4,7 @@ ghost use Prim.Native.Nat.{_<_};
 ghost use Rattle.encoder.specs.InForce.{Sound};
 ghost use Rattle.travel.specs.Travel.{nowhere, started};
 ghost use Rattle.axis.specs.Axis.{Ready};
-ghost use Rattle.axis.specs.Reading.{accepted, refused, fresh, start, readRaw, read};
+ghost use Rattle.axis.specs.Reading.{accepted, refused, fresh, start, startRaw, readRaw, read};
 use crate::Axis;
 use crate::Next;
 use encoder::effect::Effect;
@@ -16,6 +16,7 @@ use encoder::quantity::Steps;
 use encoder::quantity::Turns;
 use sensor::Reading;
 use sensor::raw_number;
+use sensor::sense;
 use travel::Moved;
 use travel::Travel;
 
@@ -31,6 +32,14 @@ impl Axis {
             },
             Effect::Refused(n) => Axis::unstarted(plate, parameters, n),
         }
+    }
+
+    // From the raw number of a first reading.
+    pub fn start_raw(plate: Nameplate, parameters: Parameters, raw: u32) -> Next
+        ensures { λ r. ⌜ r ≡ startRaw plate parameters raw ⌝ }
+    {
+        let sensed = sense(plate, raw);
+        Axis::start(plate, parameters, sensed.step, sensed.turn)
     }
 
     // At a first reading that is one of the sensor's.

@@ -12,7 +12,7 @@ use Rattle.encoder.specs.Parameters.{refusalOn}
 use Rattle.axis.specs.declared.Axis.{Axis}
 use Rattle.axis.specs.declared.Next.{Next}
 use Rattle.axis.specs.Axis.{acceptable, axisRefusal, positionOf, reported}
-use Rattle.axis.specs.Reading.{readRaw}
+use Rattle.axis.specs.Reading.{startRaw, readRaw}
 use Rattle.axis.specs.Preset.{preset as presetOn}
 use Rattle.axis.proofs.AxisLaws.{limits-of, accepts}
 use Rattle.axis.proofs.LimitsKept.{raw-kept, preset-kept, started-kept}
@@ -25,7 +25,7 @@ use Rattle.axislog_core.specs.declared.state.Stage.{Stage}
 use Rattle.axislog_core.specs.declared.state.Stage.the-variants.{NoAxis, Waiting, Started}
 use Rattle.axislog_core.specs.declared.state.State.{State}
 use Rattle.axislog_core.specs.declared.state.Reply.{Reply}
-use Rattle.axislog_core.specs.State.{plateOf, parametersOf, unstarted, empty, shown, refused, taken, after, ready, setUp, first, readAt, read, presetAt, preset, reply}
+use Rattle.axislog_core.specs.State.{plateOf, parametersOf, unstarted, empty, shown, refused, taken, after, ready, setUp, readAt, read, presetAt, preset, reply}
 
 -- a started axis is within its limits
 abbrev pub Kept : State → Type 0
@@ -46,9 +46,9 @@ unfolding unstarted
 unstarted-kept g f h e = absurd (h e)
 
 read-kept : (g : Stage) (s : State) (raw : ℕ) → s .stage ≡ g → Kept s → Kept (readAt g s raw .state)
-unfolding first
+unfolding startRaw
 read-kept NoAxis s raw e k = k
-read-kept Waiting s raw e k = after-kept s (first (s .axis) raw) k (λ z. started-kept _ _ _ _ z)
+read-kept Waiting s raw e k = after-kept s (startRaw (s .axis .nameplate) (s .axis .parameters) raw) k (λ z. started-kept _ _ _ _ z)
 read-kept Started s raw e k = after-kept s (readRaw (s .axis) raw) k (λ z. accepts _ (raw-kept (s .axis) (limits-of (s .axis) (k e)) raw))
 
 preset-at-kept : (g : Stage) (s : State) (v : ℤ) → s .stage ≡ g → Kept s → Kept (presetAt g s v .state)

@@ -17,15 +17,13 @@ use Rattle.encoder.specs.declared.quantity.Units.{Units}
 use Rattle.encoder.specs.Refusal.{answer}
 use Rattle.encoder.specs.Parameters.{refusalOn}
 use Rattle.encoder.proofs.RefusalLaws.{refused-is}
-use Rattle.sensor.specs.declared.Sensed.{Sensed}
-use Rattle.sensor.specs.Reading.{sensed}
 use Rattle.travel.specs.Travel.{nowhere}
 use Rattle.axis.specs.declared.Axis.{Axis}
 use Rattle.axis.specs.declared.Next.{Next}
 use Rattle.axis.specs.declared.Reported.{Reported}
 use Rattle.axis.specs.declared.Reported.the-variants.{At as Found, Refused as Outside}
 use Rattle.axis.specs.Axis.{reported}
-use Rattle.axis.specs.Reading.{fresh, start, readRaw}
+use Rattle.axis.specs.Reading.{fresh, startRaw, readRaw}
 use Rattle.axis.specs.Preset.{preset as presetOn}
 use Rattle.forms.specs.declared.Setup.{Setup}
 use Rattle.forms.specs.declared.Form.{Form}
@@ -36,7 +34,7 @@ use Rattle.axislog_core.specs.declared.state.Stage.{Stage}
 use Rattle.axislog_core.specs.declared.state.Stage.the-variants.{NoAxis, Waiting, Started}
 use Rattle.axislog_core.specs.declared.state.State.{State}
 use Rattle.axislog_core.specs.declared.state.Reply.{Reply}
-use Rattle.axislog_core.specs.State.{plateOf, parametersOf, unstarted, shown, refused, taken, after, ready, setUp, first, readAt, read, presetAt, preset, reply}
+use Rattle.axislog_core.specs.State.{plateOf, parametersOf, unstarted, shown, refused, taken, after, ready, setUp, readAt, read, presetAt, preset, reply}
 
 -- ---- plate and parameters
 octet-is : (b c : Bool) → boolByte b * 8 + 2 + boolByte c ≡ at b 3 + at true 1 + at c 0
@@ -59,11 +57,6 @@ pub unstarted-is : (g : Stage) (s : Setup) (n : Nameplate) (p : Parameters) → 
     → record { stage = g; axis = fresh n p nowhere } ≡ unstarted g s
 unfolding unstarted
 unstarted-is g s n p n-is p-is = rw (n-is, p-is)
-
-pub first-is : (a : Axis) (raw : ℕ) (q : Sensed) (x : Next) → q ≡ sensed (a .nameplate) raw → x ≡ start (a .nameplate) (a .parameters) (q .step .0) (q .turn .0)
-    → x ≡ first a raw
-unfolding first
-first-is a raw q x q-is x-is = x-is ∙ ap (λ (k : Sensed). start (a .nameplate) (a .parameters) (k .step .0) (k .turn .0)) q-is
 
 -- ---- the position
 module _ (a : Axis) (q : Reported) (e : q ≡ reported a) where
@@ -109,7 +102,7 @@ module _ (s : State) (raw : ℕ) (r : Reply) where
   read-none v e = e ∙ sym (ap (λ (g : Stage). readAt g s raw) v)
 
   module _ (x : Next) (e : r ≡ after s x) where
-    pub read-first : s .stage ≡ Waiting → x ≡ first (s .axis) raw → r ≡ read s raw
+    pub read-first : s .stage ≡ Waiting → x ≡ startRaw (s .axis .nameplate) (s .axis .parameters) raw → r ≡ read s raw
     unfolding read
     read-first v x-is = e ∙ ap (after s) x-is ∙ sym (ap (λ (g : Stage). readAt g s raw) v)
 
@@ -151,7 +144,6 @@ pub ruleset replies = (
   octet-fits,
   parameters-is,
   unstarted-is,
-  first-is,
   shown-at,
   shown-outside,
   after-refused,

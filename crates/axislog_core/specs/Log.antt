@@ -6,7 +6,7 @@ use mathlib.Core.Bool.{cond, not}
 use lib.Dec.{eqb, ltb}
 use lib.ListN.{length}
 use Rattle.integer.specs.Text.{over}
-use Rattle.encoder.specs.Refusal.{noForm, wrongBuffer, when, answer}
+use Rattle.encoder.specs.Refusal.{noForm, wrongBuffer, when, _before_, answer}
 use Rattle.forms.specs.Form.{form}
 use Rattle.answers.specs.declared.Answer.the-variants.{Refused as AnswerRefused}
 use Rattle.answers.specs.Answer.{text}
@@ -34,9 +34,13 @@ answersFrom s (l ∷ ls) = text (reply s (form l) .answer) ++ answersFrom (reply
 unfoldable pub answers : List ℕ → List ℕ
 answers input = cond (ltb 60000 (length input)) (text (AnswerRefused noForm)) (answersFrom empty (lines input))
 
--- 13: the lent buffer has 780,000 octets, 13 for each octet of input
+-- 13: the lent buffer has not 780,000 octets, 13 for each octet of input; 15 precedes it
+unfoldable pub callRefusal : List ℕ → List ℕ → ℕ
+callRefusal input output =
+    when (not (eqb (length output) 780000)) (when (ltb 60000 (length input)) noForm before wrongBuffer)
+
 unfoldable pub outcome : List ℕ → List ℕ → Outcome
-outcome input output = answer Refused (Written (length (answers input))) (when (not (eqb (length output) 780000)) wrongBuffer)
+outcome input output = answer Refused (Written (length (answers input))) (callRefusal input output)
 
 -- the buffer then: the answers at its start, and what was behind them
 unfoldable pub written : List ℕ → List ℕ → List ℕ

@@ -10,14 +10,13 @@ use Rattle.encoder.specs.declared.parameters.Parameters.{Parameters}
 use Rattle.encoder.specs.declared.parameters.Parameters.the-variants.{Class2}
 use Rattle.encoder.specs.Refusal.{noForm, noAxis, answer}
 use Rattle.encoder.specs.Parameters.{refusalOn}
-use Rattle.sensor.specs.Reading.{sensed}
 use Rattle.travel.specs.Travel.{nowhere}
 use Rattle.axis.specs.declared.Axis.{Axis}
 use Rattle.axis.specs.declared.Next.{Next}
 use Rattle.axis.specs.declared.Reported.{Reported}
 use Rattle.axis.specs.declared.Reported.the-variants.{At as Found, Refused as Outside}
 use Rattle.axis.specs.Axis.{reported}
-use Rattle.axis.specs.Reading.{fresh, start, readRaw}
+use Rattle.axis.specs.Reading.{fresh, startRaw, readRaw}
 use Rattle.axis.specs.Preset.{preset as presetOn}
 use Rattle.forms.specs.declared.Setup.{Setup}
 use Rattle.forms.specs.declared.Form.{Form}
@@ -75,13 +74,9 @@ unfoldable pub setUp : State → Setup → Reply
 setUp s f = answer (refused s) (ready f) (refusalOn (plateOf f) (parametersOf f))
 
 -- the first accepted read starts the axis
-unfoldable pub first : Axis → ℕ → Next
-first a raw =
-    let r = sensed (a .nameplate) raw in start (a .nameplate) (a .parameters) (r .step .0) (r .turn .0)
-
 abbrev pub readAt : Stage → State → ℕ → Reply
 readAt NoAxis s raw = refused s noAxis
-readAt Waiting s raw = after s (first (s .axis) raw)
+readAt Waiting s raw = after s (startRaw (s .axis .nameplate) (s .axis .parameters) raw)
 readAt Started s raw = after s (readRaw (s .axis) raw)
 
 unfoldable pub read : State → ℕ → Reply

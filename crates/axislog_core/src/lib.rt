@@ -32,6 +32,10 @@ pub fn answer(input: &[u8], output: &mut [u8]) -> Outcome
         × (now (output .exit) ≡ written (now (input .entry)) (now (output .entry))) ⌝ }
 {
     if output.len() != OUTPUT {
+        // 15 precedes all: with no buffer to stand in, it is the answer of the call
+        if INPUT < input.len() {
+            return Outcome::Refused(refusal::FORM);
+        }
         return Outcome::Refused(refusal::BUFFER);
     }
     if INPUT < input.len() {

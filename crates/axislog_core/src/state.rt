@@ -1,6 +1,6 @@
 // The axis of a log, and what a form does to it.
 ghost use mathlib.Core.Path.{_≡_};
-ghost use Rattle.axislog_core.specs.State.{empty, unstarted, plateOf, parametersOf, first, shown, refused, after, setUp, read, preset, reply};
+ghost use Rattle.axislog_core.specs.State.{empty, unstarted, plateOf, parametersOf, shown, refused, after, setUp, read, preset, reply};
 use answers::Answer;
 use axis::Axis;
 use axis::Next;
@@ -13,7 +13,6 @@ use encoder::quantity::Units;
 use encoder::refusal;
 use forms::Form;
 use forms::Setup;
-use sensor::sense;
 use travel::Travel;
 
 pub enum Stage {
@@ -88,9 +87,11 @@ impl State {
     {
         let stage = self.stage;
         let axis = self.axis;
+        let plate = axis.nameplate;
+        let parameters = axis.parameters;
         match stage {
             Stage::NoAxis => self.refused(refusal::NO_AXIS),
-            Stage::Waiting => self.after(first(axis, raw)),
+            Stage::Waiting => self.after(Axis::start_raw(plate, parameters, raw)),
             Stage::Started => self.after(axis.read_raw(raw)),
         }
     }
@@ -173,16 +174,6 @@ fn parameters(setup: Setup) -> Parameters
         units: Units(setup.units),
         range: Units(setup.range),
     }
-}
-
-// An axis at its first raw number.
-fn first(axis: Axis, raw: u32) -> Next
-    ensures { λ r. ⌜ r ≡ first axis raw ⌝ }
-{
-    let plate = axis.nameplate;
-    let parameters = axis.parameters;
-    let sensed = sense(plate, raw);
-    Axis::start(plate, parameters, sensed.step, sensed.turn)
 }
 
 // The position of an axis.

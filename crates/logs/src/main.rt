@@ -1,5 +1,5 @@
 // Runs axislog's core on stored logs: the arguments name them, and the answers to each stand under its name. Then on buffers that have not the
-// length they should have.
+// length they should have, for a log that is too long too.
 use axislog_core::OUTPUT;
 use axislog_core::Outcome;
 use axislog_core::answer;
@@ -25,6 +25,9 @@ fn all(output: &mut [u8]) {
     print(b"# a buffer too short, and one too long\n");
     cut(b"(read 0)\n", output, OUTPUT - 1);
     cut(b"(read 0)\n", output, OUTPUT + 1);
+    print(b"# a buffer too short, and a log too long\n");
+    let long = [b'('; 60_001];
+    cut(&long, output, OUTPUT - 1);
 }
 
 // The log of argument i.

@@ -17,7 +17,7 @@ use Rattle.sensor.proofs.SensedLaws.{sensed-raw, sensed-refusal}
 use Rattle.travel.specs.Travel.{nowhere, started}
 use Rattle.axis.specs.declared.Axis.{Axis}
 use Rattle.axis.specs.Axis.{reported}
-use Rattle.axis.specs.Reading.{next, fresh, startRefusal, start}
+use Rattle.axis.specs.Reading.{next, fresh, startRefusal, start, startRaw}
 use Rattle.accuracy.specs.Ledger.{Device, opened}
 use Rattle.accuracy.specs.Claim.{Accurate, number}
 use Rattle.accuracy.specs.Run.{library}
@@ -25,7 +25,7 @@ use Rattle.accuracy.proofs.Accuracy.{accuracy}
 use Rattle.forms.specs.declared.Form.the-variants.{Read}
 use Rattle.axislog_core.specs.declared.state.Stage.the-variants.{Waiting}
 use Rattle.axislog_core.specs.declared.state.State.{State}
-use Rattle.axislog_core.specs.State.{shown, after, first}
+use Rattle.axislog_core.specs.State.{shown, after}
 use Rattle.printed.specs.Printed.{none, waiting, opens, Holds}
 use Rattle.printed.proofs.Beside.{run, Going, now, made, Beside, Done, shown-holds}
 
@@ -47,8 +47,8 @@ module _ (s : State) (m : ℤ) (raw : ℕ) (d : Device) (h : Beside s (waiting d
   begun b a false db g = (shown-holds d (opened d raw) (reported b) (now d (opened d raw) b (g refl)), tt, (refl, db, g refl))
 
 module _ (s : State) (m : ℤ) (raw : ℕ) (st : s .stage ≡ Waiting) where
-  pub first-done : refusalOn (s .axis .nameplate) (s .axis .parameters) ≡ 0 → Done (Read raw) (waiting (made (s .axis))) m (after s (first (s .axis) raw))
-  unfolding first start startRefusal rulesOf
+  pub first-done : refusalOn (s .axis .nameplate) (s .axis .parameters) ≡ 0 → Done (Read raw) (waiting (made (s .axis))) m (after s (startRaw (s .axis .nameplate) (s .axis .parameters) raw))
+  unfolding startRaw start startRefusal rulesOf
   first-done z =
       let n = s .axis .nameplate in
       let p = s .axis .parameters in

@@ -6,6 +6,7 @@ use Prim.Native.Nat.{ℕ, zero, suc}
 use lib.IntN.{ℤ}
 use Rattle.encoder.specs.Refusal.{answer}
 use Rattle.encoder.specs.Parameters.{refusalOn}
+use Rattle.axis.specs.Reading.{startRaw}
 use Rattle.accuracy.specs.Ledger.{Device}
 use Rattle.forms.specs.declared.Setup.{Setup}
 use Rattle.forms.specs.declared.Form.{Form}
@@ -13,7 +14,7 @@ use Rattle.forms.specs.declared.Form.the-variants.{Axis as AxisForm, Read, Pres
 use Rattle.forms.specs.Form.{form}
 use Rattle.axislog_core.specs.declared.state.Stage.{Stage}
 use Rattle.axislog_core.specs.declared.state.State.{State}
-use Rattle.axislog_core.specs.State.{plateOf, parametersOf, unstarted, empty, refused, after, ready, setUp, first, readAt, read, presetAt, preset, reply}
+use Rattle.axislog_core.specs.State.{plateOf, parametersOf, unstarted, empty, refused, after, ready, setUp, readAt, read, presetAt, preset, reply}
 use Rattle.printed.specs.Printed.{Heard, Book, none, waiting, kept, sets, booked, Moves, Holds, Printed, Claim}
 use Rattle.printed.proofs.Beside.{Beside, Done}
 use Rattle.printed.proofs.Calls.{read-done, preset-done}
@@ -33,7 +34,7 @@ step s Nothing b m h w = (tt, tt, h)
 step s (Read raw) none m h w = subst (λ (g : Stage). Done (Read raw) none m (readAt g s raw)) (sym h) (tt, tt, h)
 step s (Read raw) (waiting d) m h w =
     subst (λ (g : Stage). Done (Read raw) (waiting d) m (readAt g s raw)) (sym (h .0))
-    (subst (λ (k : Device). Done (Read raw) (waiting k) m (after s (first (s .axis) raw))) (h .1)
+    (subst (λ (k : Device). Done (Read raw) (waiting k) m (after s (startRaw (s .axis .nameplate) (s .axis .parameters) raw))) (h .1)
     (first-done s m raw (h .0) (subst (λ (k : Device). refusalOn (k .plate) (k .parameters) ≡ 0) (sym (h .1)) (h .2))))
 step s (Read raw) (kept d l) m h w =
     subst (λ (g : Stage). Done (Read raw) (kept d l) m (readAt g s raw)) (sym (h .0)) (read-done s d (h .0) (h .1) l (h .2) m raw w)

@@ -1,7 +1,7 @@
 -- Each way out of the functions on a ring: a number and the place that it is counted to differ by a multiple of n.
 -- Assumes nothing.
 use mathlib.Core.Path.{_≡_, refl, sym, _∙_}
-use mathlib.Core.Bool.{Bool, true, false, _&&_, and-true, true≢false}
+use mathlib.Core.Bool.{Bool, true, false, cond, _&&_, and-true, true≢false}
 use Prim.Native.Nat.{ℕ, zero, suc, _+_, _-_, _*_, _/_, _%_, _≤_, _<_, _^_}
 use native.Mathlib.Omega.{arith}
 use native.Mathlib.Nat as N
@@ -27,38 +27,28 @@ unfolding onRing
 on-none z n e = rw (eq-eqb n 0 e)
 
 -- ---- one place and the number of places by which it is moved, both on the ring
-module _ (from by n : ℕ) (f : from < n) (b : by < n) where
+module _ (from by n : ℕ) (f : from < n) (b : by ≤ n) where
   pub ahead-on : by < n - from → from + by ≡ onRing (pos from +ℤ pos by) n
   ahead-on h = rw (on-ring (pos from +ℤ pos by) n (omega arith)) (sym (modulo-is _ 0 0 (omega arith) (omega arith)))
 
   pub ahead-round : n - from ≤ by → by - (n - from) ≡ onRing (pos from +ℤ pos by) n
   ahead-round h = rw (on-ring (pos from +ℤ pos by) n (omega arith)) (sym (modulo-is _ 0 1 (omega arith) (omega arith)))
 
-  pub back-on : by ≤ from → from - by ≡ onRing (pos from -ℤ pos by) n
-  back-on h =
-      rw (on-ring (pos from -ℤ pos by) n (omega arith))
-      (sym (modulo-is _ 0 0 (omega arith) (omega (arith, diff-is (pos from) (pos by)))))
-
-  pub back-round : from < by → n - (by - from) ≡ onRing (pos from -ℤ pos by) n
-  back-round h =
-      rw (on-ring (pos from -ℤ pos by) n (omega arith))
-      (sym (modulo-is _ 1 0 (omega arith) (omega (arith, diff-is (pos from) (pos by)))))
-
 -- ---- any place and any number: what dividing each by n leaves is the same around the ring
 module _ (place n from by m r : ℕ) (d : ℤ) (fits : SFits w64 d) (from-is : from ≡ place % n) (lt : from < n) (by-is : by ≡ m % n) where
-  pub moved-back : ltZ (toZ w64 (ofZ w64 d)) (pos 0) ≡ true → r ≡ onRing (pos from -ℤ pos by) n → m ≡ natAbs (toZ w64 (ofZ w64 d))
+  moved-back : ltZ (toZ w64 (ofZ w64 d)) (pos 0) ≡ true → r ≡ onRing (pos from +ℤ pos (n - by)) n → m ≡ natAbs (toZ w64 (ofZ w64 d))
       → r ≡ onRing (pos place +ℤ d) n
   moved-back t r-is m-is =
       let h : 0 < n = omega arith in
       let x = pos place +ℤ d in
-      let y = pos from -ℤ pos by in
+      let y = pos from +ℤ pos (n - by) in
       let i : m ≡ natAbs d = rw (reads fits) at m-is in
       let j : ltZ d (pos 0) ≡ true = rw (reads fits) at t in
-      let e : (above x + below y) + m / n * n ≡ (above y + below x) + place / n * n
-      = omega (signed, add-is (pos place) d, diff-is (pos from) (pos by), abs-is d, apart d, N.div-add-mod' place n, N.div-add-mod' m n) in
-      r-is ∙ rw (on-ring x n h, on-ring y n h) (sym (modulo-alike x y (m / n) (place / n) h e))
+      let e : (above x + below y) + suc (m / n) * n ≡ (above y + below x) + place / n * n
+      = omega (signed, add-is (pos place) d, abs-is d, apart d, N.div-add-mod' place n, N.div-add-mod' m n, N.suc-mul (m / n) n, N.mod-lt m h) in
+      r-is ∙ rw (on-ring x n h, on-ring y n h) (sym (modulo-alike x y (suc (m / n)) (place / n) h e))
 
-  pub moved-ahead : ltZ (toZ w64 (ofZ w64 d)) (pos 0) ≡ false → r ≡ onRing (pos from +ℤ pos by) n → m ≡ natAbs (toZ w64 (ofZ w64 d))
+  moved-ahead : ltZ (toZ w64 (ofZ w64 d)) (pos 0) ≡ false → r ≡ onRing (pos from +ℤ pos by) n → m ≡ natAbs (toZ w64 (ofZ w64 d))
       → r ≡ onRing (pos place +ℤ d) n
   moved-ahead t r-is m-is =
       let h : 0 < n = omega arith in
@@ -70,6 +60,23 @@ module _ (place n from by m r : ℕ) (d : ℤ) (fits : SFits w64 d) (from-is : f
       let e : (above x + below y) + 0 * n ≡ (above y + below x) + q * n
       = omega (signed, add-is (pos place) d, abs-is d, apart d, N.div-add-mod' place n, N.div-add-mod' m n, N.add-mul (place / n) (m / n) n) in
       r-is ∙ rw (on-ring x n h, on-ring y n h) (sym (modulo-alike x y 0 q h e))
+
+  by-way : (t : Bool) → ltZ (toZ w64 (ofZ w64 d)) (pos 0) ≡ t → r ≡ onRing (pos from +ℤ pos (cond t (n - by) by)) n
+      → m ≡ natAbs (toZ w64 (ofZ w64 d)) → r ≡ onRing (pos place +ℤ d) n
+  by-way true e r-is m-is = moved-back e r-is m-is
+  by-way false e r-is m-is = moved-ahead e r-is m-is
+
+  pub moved-on : (on : ℕ) → r ≡ onRing (pos from +ℤ pos on) n → on ≡ cond (ltZ (toZ w64 (ofZ w64 d)) (pos 0)) (n - by) by
+      → m ≡ natAbs (toZ w64 (ofZ w64 d)) → r ≡ onRing (pos place +ℤ d) n
+  moved-on on r-is on-is m-is = by-way (ltZ (toZ w64 (ofZ w64 d)) (pos 0)) refl (rw on-is at r-is) m-is
+
+-- ---- the way ahead that comes to the same
+module _ (d : ℤ) (by n : ℕ) (fits : SFits w64 d) where
+  pub forward-back : ltZ (toZ w64 (ofZ w64 d)) (pos 0) ≡ true → n - by ≡ cond (ltZ d (pos 0)) (n - by) by
+  forward-back t = let e : ltZ d (pos 0) ≡ true = rw (reads fits) at t in rw e
+
+  pub forward-ahead : ltZ (toZ w64 (ofZ w64 d)) (pos 0) ≡ false → by ≡ cond (ltZ d (pos 0)) (n - by) by
+  forward-ahead t = let e : ltZ d (pos 0) ≡ false = rw (reads fits) at t in rw e
 
 -- ---- what dividing leaves
 pub rest-is : (a n : ℕ) → a < n → a ≡ a % n
@@ -150,4 +157,4 @@ pub between-is : (z : ℤ) (n : ℕ) → SFits w64 z → Fits w32 n
 unfolding inRange
 between-is z n f h = rw (reads (end-fits (pos 0) n (omega arith) h), read-end n h, reads f) (both-ends z n)
 
-pub ruleset rings = (on-none, ahead-on, ahead-round, back-on, back-round, moved-back, moved-ahead, rest-is, rest-lt, end-fits, between-is)
+pub ruleset rings = (on-none, ahead-on, ahead-round, forward-back, forward-ahead, moved-on, rest-is, rest-lt, end-fits, between-is)

@@ -1,7 +1,9 @@
 // Arithmetic on a ring of n places, 0 to n - 1, on which a signed number counts around.
 ghost use mathlib.Core.Path.{_≡_};
-ghost use Prim.Native.Nat.{_<_, _%_};
-ghost use lib.IntN.{pos, natAbs, _+ℤ_, _-ℤ_};
+ghost use mathlib.Core.Bool.{cond};
+ghost use Prim.Native.Nat.{_-_, _<_, _≤_, _%_};
+ghost use lib.IntN.{pos, natAbs, _+ℤ_};
+ghost use lib.Signed.{ltZ};
 ghost use Rattle.ring.specs.Ring.{onRing, inRange};
 
 // The place that lies d further on than a place, or back where d is below 0.
@@ -13,11 +15,7 @@ pub fn moved(place: u64, d: i64, n: u64) -> u64
     }
     let from = rest(place, n);
     let by = rest(magnitude(d), n);
-    if d < 0 {
-        back(from, by, n)
-    } else {
-        ahead(from, by, n)
-    }
+    ahead(from, forward(d, by, n), n)
 }
 
 // v lies strictly between -n and n.
@@ -35,23 +33,20 @@ pub fn magnitude(d: i64) -> u64
     if d < 0 { (-1 - d) as u64 + 1 } else { d as u64 }
 }
 
+// Back by so many places is ahead by the others: with one sum for both, no branch hangs on the sign of a move.
+fn forward(d: i64, by: u64, n: u64) -> u64
+    requires { ⌜ by < n ⌝ }
+    ensures { λ r. ⌜ (r ≡ cond (ltZ d (pos 0)) (n - by) by) × (r ≤ n) ⌝ }
+{
+    if d < 0 { n - by } else { by }
+}
+
 fn ahead(from: u64, by: u64, n: u64) -> u64
-    requires { ⌜ (from < n) × (by < n) ⌝ }
+    requires { ⌜ (from < n) × (by ≤ n) ⌝ }
     ensures { λ r. ⌜ r ≡ onRing (pos from +ℤ pos by) n ⌝ }
 {
     let room = n - from;
     if by < room { from + by } else { by - room }
-}
-
-fn back(from: u64, by: u64, n: u64) -> u64
-    requires { ⌜ (from < n) × (by < n) ⌝ }
-    ensures { λ r. ⌜ r ≡ onRing (pos from -ℤ pos by) n ⌝ }
-{
-    if by <= from {
-        from - by
-    } else {
-        n - (by - from)
-    }
 }
 
 // What dividing by n leaves; most numbers are below n, and need no division.

@@ -21,16 +21,17 @@ use Rattle.travel.specs.Travel.{oriented, difference, shorter, moveOf, m
 
 -- ---- 1. the oriented number
 module _ (f : InForce) (raw : ℕ) where
-  pub oriented-on : f .reversed ≡ true → (f .capacity .0 - raw) % f .capacity .0 ≡ oriented f raw
+  pub oriented-none : f .reversed ≡ true → raw ≡ 0 → raw ≡ oriented f raw
   unfolding oriented
-  oriented-on e = rw e
+  oriented-none e z = rw (e, z, N.sub-zero (f .capacity .0)) (sym (N.mod-self (f .capacity .0)))
+
+  pub oriented-on : f .reversed ≡ true → (raw ≡ 0 → ⊥) → raw < f .capacity .0 → f .capacity .0 - raw ≡ oriented f raw
+  unfolding oriented
+  oriented-on e ne h = rw e (sym (N.mod-eq-of-lt (omega arith)))
 
   pub oriented-off : f .reversed ≡ false → raw ≡ oriented f raw
   unfolding oriented
   oriented-off e = rw e
-
-pub below-capacity : (f : InForce) (x : ℕ) → Sound f → x % f .capacity .0 < f .capacity .0
-below-capacity f x s = N.mod-lt x (s .capacity-least)
 
 -- ---- 3. the difference: the numbers' own, or one range short of it
 module _ (f : InForce) (last raw from to : ℕ) (from-is : from ≡ oriented f last) (from-lt : from < f .capacity .0)
@@ -114,9 +115,9 @@ pub taken-lt : (f : InForce) (last raw n : ℕ) → n ≡ 0 → n ≡ moveRefusa
 taken-lt f last raw n z e = raw-lt f last raw (sym e ∙ z)
 
 pub ruleset sensors = (
+  oriented-none,
   oriented-on,
   oriented-off,
-  below-capacity,
   difference-ahead,
   difference-round,
   back-fits,

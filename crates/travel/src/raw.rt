@@ -14,7 +14,11 @@ pub(crate) fn oriented(rules: InForce, raw: Steps) -> Steps
     ensures { λ r. ⌜ (r .0 ≡ oriented rules (raw .0)) × (r .0 < rules .capacity .0) ⌝ }
 {
     if rules.reversed {
-        return Steps((rules.capacity.0 - raw.0) % rules.capacity.0);
+        // C - raw modulo C, without a division: two are made for each reading
+        if raw.0 == 0 {
+            return raw;
+        }
+        return Steps(rules.capacity.0 - raw.0);
     }
     raw
 }

@@ -10,6 +10,7 @@ answer-spec =
     tie.close
     (tie.spec
     (λ c. search (needs, outcomes))
+    (λ c. search (needs, outcomes))
     (λ c κs. search (needs, outcomes))
     (λ c. search (needs, outcomes))
     (λ c. search (needs, outcomes))

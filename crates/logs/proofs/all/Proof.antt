@@ -8,10 +8,10 @@ use Rattle.logs.proofs.all.Statement.{statement}
 use Rattle.logs.proofs.all.Tie as tie
 
 abbrev Inv-loop : tie.InvT-loop
-Inv-loop output₀ count i₀ t4 t5 t6 output i = length output ≡ length output₀
+Inv-loop output₀ count i₀ t5 t6 t7 t8 output i = length output ≡ length output₀
 
 abbrev μ-loop : tie.MeasureT-loop
-μ-loop output₀ count i₀ t4 t5 t6 output i = count - i
+μ-loop output₀ count i₀ t5 t6 t7 t8 output i = count - i
 
 pub all-spec : {M : Type 1} → statement M
 all-spec =
@@ -28,6 +28,11 @@ all-spec =
     (λ c. search needs)
     (λ c κs. search needs)
     (λ c. search needs)
+    (λ c. search needs)
+    (λ c κs. search needs)
+    (λ c. search needs)
+    (λ c. search needs)
+    (λ c κs. search needs)
     (λ c. search needs)
     (λ c κs. search needs)
     (λ c. search needs)

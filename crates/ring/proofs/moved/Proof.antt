@@ -15,5 +15,4 @@ moved-spec =
     (λ c κs. search needs)
     (λ c κs. search needs)
     (λ c κs. search needs)
-    (λ c. search (needs, rings))
     (λ c. search (needs, rings)))

@@ -9,7 +9,7 @@ pub oriented-spec : {M : Type 1} → statement M
 oriented-spec =
     tie.close
     (tie.spec
-    (λ c. search needs)
+    (λ c. search (needs, sensors))
     (λ c. search needs)
     (λ c. search (needs, sensors))
     (λ c. search (needs, sensors)))

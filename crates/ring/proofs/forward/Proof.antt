@@ -2,14 +2,13 @@
 -- Assumes nothing.
 use borrow.Author.Needs.{needs}
 use Rattle.ring.proofs.RingLaws.{rings}
-use Rattle.ring.proofs.back.Statement.{statement}
-use Rattle.ring.proofs.back.Tie as tie
+use Rattle.ring.proofs.forward.Statement.{statement}
+use Rattle.ring.proofs.forward.Tie as tie
 
-pub back-spec : {M : Type 1} → statement M
-back-spec =
+pub forward-spec : {M : Type 1} → statement M
+forward-spec =
     tie.close
     (tie.spec
-    (λ c. search needs)
     (λ c. search needs)
     (λ c. search (needs, rings))
     (λ c. search (needs, rings)))

@@ -1,0 +1,153 @@
+//! The same work by hand in Rust: start and batch by document 01's rules, the readings looked through before any position is written.
+//! Twice: as one writes it down, and tuned as far as the same method goes.
+
+use encoder_tests::model::{Parameters, Plate};
+
+/// What plate and parameters put in force: R, C, M, L and the direction.
+struct Force {
+    r: u64,
+    c: u64,
+    m: u64,
+    l: u64,
+    reversed: bool,
+}
+
+fn force(plate: Plate, sent: Parameters) -> Result<Force, u8> {
+    let (r, t) = (u64::from(plate.steps), u64::from(plate.turns));
+    let (units, range, octet, four) = (u64::from(sent.units), u64::from(sent.range), sent.operating, sent.four != 0);
+    let (on, scaling) = (octet & 0x02 != 0, octet & 0x0A == 0x0A);
+    if if four { octet & 0xE0 != 0x20 } else { octet & 0xF0 != 0 } {
+        return Err(3);
+    }
+    if scaling && (units == 0 || units > r) {
+        return Err(4);
+    }
+    if scaling && (range < units || range > units * t) {
+        return Err(5);
+    }
+    if four && sent.speed > 3 {
+        return Err(6);
+    }
+    let (m, l) = if scaling { (units, range) } else { (r, r * t) };
+    Ok(Force { r, c: r * t, m, l, reversed: octet & 0x01 != 0 && (on || !four) })
+}
+
+fn plate_fits(plate: Plate) -> bool {
+    (2..=65_536).contains(&plate.steps) && (1..=32_768).contains(&plate.turns)
+}
+
+/// The refusals up to the first raw number.
+fn begin(plate: Plate, sent: Parameters, first: u32, raws: &[u32], positions: &[u32]) -> Result<Force, u8> {
+    if !plate_fits(plate) {
+        return Err(7);
+    }
+    if raws.len() != positions.len() {
+        return Err(13);
+    }
+    let f = force(plate, sent)?;
+    if u64::from(first) >= f.c {
+        return Err(9);
+    }
+    Ok(f)
+}
+
+/// As one writes it down.
+pub fn plain(plate: Plate, sent: Parameters, first: u32, raws: &[u32], positions: &mut [u32]) -> u8 {
+    match begin(plate, sent, first, raws, positions) {
+        Err(number) => number,
+        Ok(f) => plain_on(&f, first, raws, positions),
+    }
+}
+
+fn oriented(f: &Force, raw: u64) -> u64 {
+    if f.reversed && raw != 0 {
+        f.c - raw
+    } else {
+        raw
+    }
+}
+
+fn difference(f: &Force, last: u64, raw: u64) -> u64 {
+    let (from, to) = (oriented(f, last), oriented(f, raw));
+    if from <= to {
+        to - from
+    } else {
+        to + f.c - from
+    }
+}
+
+fn plain_on(f: &Force, first: u32, raws: &[u32], positions: &mut [u32]) -> u8 {
+    let mut last = u64::from(first);
+    for &raw in raws {
+        let raw = u64::from(raw);
+        if raw >= f.c {
+            return 9;
+        }
+        if 2 * difference(f, last, raw) == f.c {
+            return 10;
+        }
+        last = raw;
+    }
+    let ring = f.r * f.l;
+    let mut place = oriented(f, u64::from(first)) % ring;
+    let mut last = u64::from(first);
+    for (position, &raw) in positions.iter_mut().zip(raws) {
+        let ahead = difference(f, last, u64::from(raw));
+        if 2 * ahead < f.c {
+            place = (place + ahead % ring) % ring;
+        } else {
+            place = (place + ring - (f.c - ahead) % ring) % ring;
+        }
+        last = u64::from(raw);
+        *position = (place * f.m / f.r % f.l) as u32;
+    }
+    0
+}
+
+/// Tuned: no remainder where a comparison does, no branch on the sign of a move, and the direction told apart outside of the loops.
+pub fn tuned(plate: Plate, sent: Parameters, first: u32, raws: &[u32], positions: &mut [u32]) -> u8 {
+    match begin(plate, sent, first, raws, positions) {
+        Err(number) => number,
+        Ok(f) if f.reversed => tuned_on::<true>(&f, first, raws, positions),
+        Ok(f) => tuned_on::<false>(&f, first, raws, positions),
+    }
+}
+
+/// The way ahead from one raw number to the next, modulo C.
+fn way<const REVERSED: bool>(c: u64, last: u64, raw: u64) -> u64 {
+    let (from, to) = if REVERSED { (raw, last) } else { (last, raw) };
+    if from <= to {
+        to - from
+    } else {
+        to + c - from
+    }
+}
+
+fn tuned_on<const REVERSED: bool>(f: &Force, first: u32, raws: &[u32], positions: &mut [u32]) -> u8 {
+    let mut last = u64::from(first);
+    for &raw in raws {
+        let raw = u64::from(raw);
+        if raw >= f.c {
+            return 9;
+        }
+        if 2 * way::<REVERSED>(f.c, last, raw) == f.c {
+            return 10;
+        }
+        last = raw;
+    }
+    let ring = f.r * f.l;
+    let mut place = way::<REVERSED>(f.c, 0, u64::from(first)) % ring;
+    let mut last = u64::from(first);
+    for (position, &raw) in positions.iter_mut().zip(raws) {
+        let ahead = way::<REVERSED>(f.c, last, u64::from(raw));
+        let (by, back) = if 2 * ahead < f.c { (ahead, false) } else { (f.c - ahead, true) };
+        let by = if by < ring { by } else { by % ring };
+        place += if back { ring - by } else { by };
+        if place >= ring {
+            place -= ring;
+        }
+        last = u64::from(raw);
+        *position = (place * f.m / f.r % f.l) as u32;
+    }
+    0
+}

@@ -1,0 +1,53 @@
+-- Plate and parameters as plain numbers, as other languages bring and take them.
+-- Assumes nothing.
+use Prim.Native.Nat.{ℕ}
+use mathlib.Core.Path.{_≡_}
+use mathlib.Core.Bool.{cond, not}
+use mathlib.Core.List.{List, [], _∷_}
+use lib.Dec.{eqb}
+use lib.ListN.{length, replicate}
+use Rattle.encoder.specs.declared.nameplate.Nameplate.{Nameplate}
+use Rattle.encoder.specs.declared.parameters.Parameters.{Parameters}
+use Rattle.encoder.specs.declared.parameters.Parameters.the-variants.{Class2, Class4}
+use Rattle.encoder.specs.Refusal.{wrongPlate, wrongBuffer, when, _before_, answer}
+use Rattle.encoder.specs.Nameplate.{plateFits}
+use Rattle.reader.specs.declared.Received.{Received}
+use Rattle.reader.specs.declared.Received.the-variants.{Taken, Refused}
+
+-- a plate by R, T and ident; its other fields have no part in the calls, and are zero
+abbrev pub plateOf : ℕ → ℕ → ℕ → Nameplate
+plateOf steps turns ident =
+    record { steps = record { 0 = steps }; turns = record { 0 = turns }; ident = ident; software = replicate 2 0; serial = replicate 10 0 }
+
+-- parameters of class 2 where the first number is 0, and of class 4 where it is any other
+abbrev pub parametersOf : ℕ → ℕ → ℕ → ℕ → ℕ → ℕ → Parameters
+parametersOf four operating units range life speed =
+    cond (eqb four 0) (Class2 operating (record { 0 = units }) (record { 0 = range }))
+    (Class4 operating (record { 0 = units }) (record { 0 = range }) life speed)
+
+-- the fields as sent, one number each
+abbrev pub numbersOf : Parameters → List ℕ
+numbersOf (Class2 operating units range) = operating ∷ units .0 ∷ range .0 ∷ []
+numbersOf (Class4 operating units range life speed) = operating ∷ units .0 ∷ range .0 ∷ life ∷ speed ∷ []
+
+-- the parameters that were received fill a list of so many numbers
+abbrev pub Fills : ℕ → Received → Type 0
+Fills size (Taken p) = length (numbersOf p) ≡ size
+Fills size (Refused n) = Unit {0}
+
+-- ---- what a reader has received goes into a lent list: 7, 13, then the reader's own refusals
+abbrev pub readersRefusal : Received → ℕ
+readersRefusal (Taken p) = 0
+readersRefusal (Refused n) = n
+
+unfoldable pub takeRefusal : Nameplate → ℕ → Received → List ℕ → ℕ
+takeRefusal n size x out =
+    when (not (plateFits n)) wrongPlate before when (not (eqb (length out) size)) wrongBuffer before readersRefusal x
+
+-- the list: the numbers, or as it was
+abbrev pub numbersIn : Received → List ℕ → List ℕ
+numbersIn (Taken p) out = numbersOf p
+numbersIn (Refused n) out = out
+
+unfoldable pub taken : Nameplate → ℕ → Received → List ℕ → List ℕ
+taken n size x out = answer (λ _. out) (numbersIn x out) (takeRefusal n size x out)

@@ -1,0 +1,33 @@
+// A batch from its start on.
+ghost use mathlib.Core.Path.{_≡_};
+ghost use Rattle.exports.specs.Run.{runRefusal, ran};
+use axis::Axis;
+use batch::batch;
+use encoder::nameplate::Nameplate;
+use encoder::parameters::Parameters;
+use encoder::refusal;
+
+pub(crate) fn run(
+    plate: Nameplate,
+    parameters: Parameters,
+    first: u32,
+    raws: &[u32],
+    positions: &mut [u32],
+) -> u8
+    ensures { λ r. ⌜ (r ≡ runRefusal plate parameters first (now (raws .entry)) (now (positions .entry)))
+        × (now (positions .exit) ≡ ran plate parameters first (now (raws .entry)) (now (positions .entry))) ⌝ }
+{
+    if !plate.fits() {
+        return refusal::PLATE;
+    }
+    if raws.len() != positions.len() {
+        return refusal::BUFFER;
+    }
+    let start = Axis::start_raw(plate, parameters, first);
+    if start.refusal != 0 {
+        return start.refusal;
+    }
+    let axis = start.axis;
+    let next = batch(axis, raws, positions);
+    next.refusal
+}
