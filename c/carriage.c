@@ -28,7 +28,7 @@ static void show(const char *what, struct carriage k, uint32_t first, const uint
     printf("\n");
 }
 
-/* Reads octets as a telegram (17) or a block (11), and prints the numbers. */
+/* Prints the numbers that a reader has filled in, or its refusal and the list as it was left. */
 static void numbers(const char *what, uint8_t refusal, const uint32_t *parameters, size_t length) {
     printf("%s:", what);
     if (refusal != 0)

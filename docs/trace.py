@@ -1,5 +1,5 @@
 #!/usr/bin/env python3
-"""Checks a trace table against the repository: python3 check.py TRACE.md ROOT [PAPER]
+"""Checks a trace table against the repository: python3 docs/trace.py docs/TRACE.md . [PAPER]
 
 Of the second and third column: that each backticked path exists; that each backticked name is defined in the file named next behind it in the
 same cell; that each must-fail edit (crate/label) exists; that each text quoted after "vectors" is a remark of crates/vectors/stdin, each after
