@@ -6,7 +6,7 @@ use Prim.Native.Nat.{ℕ}
 use lib.IntN.{ℤ}
 use Rattle.encoder.specs.Parameters.{fieldsRefusal, refusalOn}
 use Rattle.sensor.specs.Reading.{stepRefusal}
-use Rattle.axis.specs.declared.Reported.{Reported}
+use Rattle.travel.specs.declared.Reported.{Reported}
 use Rattle.axis.specs.Reading.{startRefusal}
 use Rattle.accuracy.specs.Calls.{Call}
 use Rattle.accuracy.specs.Ledger.{Ledger, opened, deed, noted}

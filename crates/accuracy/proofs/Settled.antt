@@ -11,10 +11,11 @@ use Rattle.encoder.specs.Refusal.{wrongBuffer, when, answer}
 use Rattle.sensor.specs.Reading.{rawOf}
 use Rattle.travel.specs.Travel.{moveRefusal, travelRefusal}
 use Rattle.travel.proofs.TravelLaws.{read-refusal}
+use Rattle.shift.specs.Shift.{valueRefusal}
 use Rattle.axis.specs.declared.Axis.{Axis}
 use Rattle.axis.specs.Axis.{rulesOn}
 use Rattle.axis.specs.Reading.{next, atRaw, readRawRefusal, readRaw, readRefusal, read}
-use Rattle.axis.specs.Preset.{valueRefusal, presetRefusal, presetted, preset, holding, store}
+use Rattle.axis.specs.Preset.{presetRefusal, presetted, preset, holding, store}
 use Rattle.axis.proofs.AxisLaws.{Limits, limits-none}
 use Rattle.batch.specs.Batch.{after, positionsOf, batchRefusal, batch, batchList}
 use Rattle.batch.proofs.BatchLaws.{first-is}

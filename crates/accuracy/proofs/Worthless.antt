@@ -17,9 +17,10 @@ use Rattle.encoder.specs.InForce.{rulesOf, rulesFit}
 use Rattle.sensor.specs.Reading.{stepRefusal}
 use Rattle.travel.specs.Travel.{inside, oriented, started, difference, shorter, moveOf, moveRefusal, movedTo, unshifted, positionAt, travelRefusal}
 use Rattle.travel.specs.Batch.{refusalIn}
+use Rattle.shift.specs.Shift.{valueRefusal}
 use Rattle.axis.specs.Axis.{rulesOn, acceptable, axisRefusal, unshiftedOf, positionOf, reported}
 use Rattle.axis.specs.Reading.{startRefusal, start, atRaw, readRawRefusal, readRaw}
-use Rattle.axis.specs.Preset.{valueRefusal, presetRefusal, asked, presetted, preset}
+use Rattle.axis.specs.Preset.{presetRefusal, asked, presetted, preset}
 use Rattle.batch.specs.Batch.{firstRefusal, positionsOf, batchRefusal, batchList}
 use Rattle.cyclic.specs.Raw.{faultyAt, takenAt}
 use Rattle.link.specs.Class2.{made, link}

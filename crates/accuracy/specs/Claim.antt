@@ -29,8 +29,8 @@ use Rattle.encoder.specs.declared.parameters.Parameters.{Parameters}
 use Rattle.encoder.specs.Parameters.{fieldsOf}
 use Rattle.sensor.specs.Reading.{rawOf}
 use Rattle.travel.specs.Travel.{oriented}
-use Rattle.axis.specs.declared.Reported.{Reported}
-use Rattle.axis.specs.declared.Reported.the-variants.{At, Refused}
+use Rattle.travel.specs.declared.Reported.{Reported}
+use Rattle.travel.specs.declared.Reported.the-variants.{At, Refused}
 use Rattle.axis.specs.Reading.{startRefusal}
 use Rattle.cyclic.specs.Cycle.{four}
 use Rattle.accuracy.specs.Calls.{Call, reading, rawReading, batching, presetting, storing, cycling}

@@ -17,7 +17,7 @@ use Rattle.encoder.specs.InForce.{rulesOf}
 use Rattle.sensor.specs.Reading.{rawOf, stepRefusal}
 use Rattle.travel.specs.Travel.{oriented, moveRefusal}
 use Rattle.travel.specs.Batch.{refusalIn}
-use Rattle.axis.specs.Preset.{valueRefusal}
+use Rattle.shift.specs.Shift.{valueRefusal}
 use Rattle.link.specs.declared.Link.{Link}
 use Rattle.link.specs.Link.{quiet}
 use Rattle.link.specs.Class2 as Class2

@@ -9,9 +9,9 @@ use lib.ListN.{length, getD, replicate}
 use lib.Signed.{quotZ}
 use Rattle.integer.specs.Modulus.{_modulo_}
 use Rattle.travel.specs.Travel.{oriented, moveOf}
+use Rattle.travel.specs.declared.Reported.{Reported}
+use Rattle.travel.specs.declared.Reported.the-variants.{At}
 use Rattle.axis.specs.declared.Axis.{Axis}
-use Rattle.axis.specs.declared.Reported.{Reported}
-use Rattle.axis.specs.declared.Reported.the-variants.{At}
 use Rattle.axis.specs.Axis.{rulesOn, unshiftedOf, positionOf, reported}
 use Rattle.axis.specs.Reading.{travelled}
 use Rattle.link.specs.Link.{quiet}

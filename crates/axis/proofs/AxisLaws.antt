@@ -24,25 +24,26 @@ use Rattle.axis.specs.declared.Axis.{Axis}
 use Rattle.axis.specs.Axis.{rulesOn, keeps, acceptable, axisRefusal, inForceOn, Ready}
 
 -- ---- the test
-pub keeps-is : (a : Axis) (f : InForce) (r o p q : Bool) → r ≡ inside f (a .travel)
-    → o ≡ inRange (toZ w64 (ofZ w64 (a .offset))) (f .span .0) → SFits w64 (a .offset)
-    → p ≡ inRange (toZ w64 (ofZ w64 (a .preset))) (f .span .0) → SFits w64 (a .preset)
-    → q ≡ inRange (toZ w64 (ofZ w64 (a .stored))) (f .span .0) → SFits w64 (a .stored)
-    → (r && o && p && q) ≡ keeps f a
-keeps-is a f r o p q re oe of pe pf qe qf = rw (re, oe, pe, qe, reads of, reads pf, reads qf)
-
 module _ (a : Axis) (e : Effect) where
-  pub rules-taken : (f : InForce) (b : Bool) → b ≡ true → b ≡ keeps f a → e ≡ Taken f → e ≡ inForce (a .nameplate) (a .parameters) → Taken f ≡ inForceOn a
-  unfolding inForceOn axisRefusal acceptable rulesOn
-  rules-taken f b t b-is h e-is =
-      let i = in-force-taken _ _ e f h e-is in
-      rw (eq-eqb _ _ (i .0), ← i .1, ← b-is, t)
+  module _ (f : InForce) (r o p q : Bool) (r-is : r ≡ inside f (a .travel))
+      (o-is : o ≡ inRange (toZ w64 (ofZ w64 (a .offset))) (f .span .0)) (o-fits : SFits w64 (a .offset))
+      (p-is : p ≡ inRange (toZ w64 (ofZ w64 (a .preset))) (f .span .0)) (p-fits : SFits w64 (a .preset))
+      (q-is : q ≡ inRange (toZ w64 (ofZ w64 (a .stored))) (f .span .0)) (q-fits : SFits w64 (a .stored))
+      (h : e ≡ Taken f) (e-is : e ≡ inForce (a .nameplate) (a .parameters)) where
+    tested : (b : Bool) → (r && o && p && q) ≡ b → acceptable a ≡ b
+    unfolding acceptable rulesOn
+    tested b t =
+        let i = in-force-taken _ _ e f h e-is in
+        let k : keeps f a ≡ b = sym (rw (r-is, o-is, p-is, q-is, reads o-fits, reads p-fits, reads q-fits)) ∙ t in
+        rw (eq-eqb _ _ (i .0), ← i .1, k)
 
-  pub rules-out : (f : InForce) (b : Bool) → b ≡ false → b ≡ keeps f a → e ≡ Taken f → e ≡ inForce (a .nameplate) (a .parameters) → Refused 16 ≡ inForceOn a
-  unfolding inForceOn axisRefusal acceptable rulesOn
-  rules-out f b t b-is h e-is =
-      let i = in-force-taken _ _ e f h e-is in
-      rw (eq-eqb _ _ (i .0), ← i .1, ← b-is, t)
+    pub rules-taken : (r && o && p && q) ≡ true → Taken f ≡ inForceOn a
+    unfolding inForceOn axisRefusal rulesOn
+    rules-taken t = rw (tested true t, ← in-force-taken _ _ e f h e-is .1)
+
+    pub rules-out : (r && o && p && q) ≡ false → Refused 16 ≡ inForceOn a
+    unfolding inForceOn axisRefusal
+    rules-out t = rw (tested false t)
 
   pub rules-not : (n : ℕ) → e ≡ Refused n → e ≡ inForce (a .nameplate) (a .parameters) → Refused 16 ≡ inForceOn a
   unfolding inForceOn axisRefusal acceptable
@@ -50,7 +51,7 @@ module _ (a : Axis) (e : Effect) where
       let i = in-force-refused _ _ e n h e-is in
       rw (ne-eqb (refusalOn (a .nameplate) (a .parameters)) 0 (λ z. i .1 (sym (i .0) ∙ z)))
 
-pub ruleset rulings = (keeps-is, rules-taken, rules-out, rules-not)
+pub ruleset rulings = (rules-taken, rules-out, rules-not)
 
 -- ---- the limits as facts
 pub record Limits (a : Axis) : Type 0 where

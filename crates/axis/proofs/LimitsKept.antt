@@ -25,10 +25,11 @@ use Rattle.sensor.proofs.ReadingLaws.{reading-lt}
 use Rattle.encoder.proofs.SoundLaws.{taken-sound}
 use Rattle.travel.specs.Travel.{nowhere, started as travelStarted, unshifted, travelRefusal}
 use Rattle.travel.proofs.TravelLaws.{inside-is, nowhere-out, started-kept as travel-kept}
+use Rattle.shift.specs.Shift.{valueRefusal}
 use Rattle.axis.specs.declared.Axis.{Axis}
 use Rattle.axis.specs.Axis.{rulesOn, acceptable, axisRefusal, unshiftedOf, positionOf}
 use Rattle.axis.specs.Reading.{next, fresh, startRefusal, start, atRaw, readRawRefusal, readRaw, readRefusal, read}
-use Rattle.axis.specs.Preset.{valueRefusal, presetRefusal, asked, presetted, preset, holding, store}
+use Rattle.axis.specs.Preset.{presetRefusal, asked, presetted, preset, holding, store}
 use Rattle.axis.proofs.AxisLaws.{Limits, limits-of, accepts}
 use Rattle.axis.proofs.ReadingLaws.{first, travelled-kept}
 

@@ -29,7 +29,7 @@ use Rattle.travel.proofs.TravelLaws.{moved-kept, read-refusal, to-taken, to-ref
 use Rattle.axis.specs.declared.Axis.{Axis}
 use Rattle.axis.specs.declared.Next.{Next}
 use Rattle.axis.specs.Axis.{rulesOn, axisRefusal, inForceOn, Ready}
-use Rattle.axis.specs.Reading.{accepted, refused, next, fresh, startRefusal, start, startRaw, travelled, atRaw, readRawRefusal, readRaw, readRefusal, read}
+use Rattle.axis.specs.Reading.{accepted, refused, next, fresh, begunBy, startRefusal, start, startRaw, travelled, atRaw, readRawRefusal, readRaw, readRefusal, read}
 use Rattle.axis.proofs.AxisLaws.{Limits, limits-none, ready-of, outside-of, stands-none}
 
 -- ---- the first refusal is the answer
@@ -55,9 +55,11 @@ module _ (a : Axis) (f : InForce) (r : Ready a f) (raw : ℕ) (m : Moved) (x : N
       let i = to-refused m (movedTo f (a .travel) raw) (travelRefusal f (a .travel) raw) n h m-is in
       w ∙ rw (stands-none a f r, ← r .is, i .0) (next-refused a (atRaw a raw) n (i .1))
 
-pub read-raw-16 : (a : Axis) (e : Effect) (raw n : ℕ) (x : Next) → x ≡ refused a n → e ≡ NotInForce n → e ≡ inForceOn a → x ≡ readRaw a raw
+pub raw-16 : (a : Axis) (e : Effect) (raw n : ℕ) (x : Next) → x ≡ refused a n → e ≡ NotInForce n → e ≡ inForceOn a → x ≡ readRaw a raw
 unfolding readRaw readRawRefusal
-read-raw-16 a e raw n x w h e-is = outside-first a (atRaw a raw) e n _ x w h e-is
+raw-16 a e raw n x w h e-is = outside-first a (atRaw a raw) e n _ x w h e-is
+
+pub ruleset raws = (ready-of, take-to, take-no, raw-16)
 
 -- and the axis that it moves keeps its limits
 pub travelled-kept : (a : Axis) → Limits a → (raw : ℕ) → travelRefusal (rulesOn a) (a .travel) raw ≡ 0 → Limits (atRaw a raw)
@@ -83,88 +85,65 @@ module _ (a : Axis) (l : Limits a) (raw : ℕ) where
   singly n e = rw (raw-refusal, e)
 
 -- ---- a step and a turn
-module _ (a : Axis) (e : Effect) (s t : ℕ) (x : Next) where
-  pub read-16 : (n : ℕ) → x ≡ refused a n → e ≡ NotInForce n → e ≡ inForceOn a → x ≡ read a s t
-  unfolding read readRefusal
-  read-16 n w h e-is = outside-first a (atRaw a (rawOf (a .nameplate) s t)) e n _ x w h e-is
+module _ (a : Axis) (s t : ℕ) (q : Reading) (x : Next) where
+  pub read-number : (raw : ℕ) → q ≡ Number raw → q ≡ numbered (a .nameplate) s t → x ≡ readRaw a raw → x ≡ read a s t
+  unfolding read readRefusal readRaw readRawRefusal
+  read-number raw g q-is w = let i = reading-taken (a .nameplate) s t q raw g q-is in rw (i .0) (rw (i .1) at w)
 
-  module _ (f : InForce) (h : e ≡ Taken f) (e-is : e ≡ inForceOn a) (q : Reading) where
-    pub read-no : (n : ℕ) → x ≡ refused a n → q ≡ NotRead n → q ≡ numbered (a .nameplate) s t → x ≡ read a s t
+  module _ (e : Effect) (e-is : e ≡ inForceOn a) where
+    pub read-16 : (n : ℕ) → e ≡ NotInForce n → x ≡ refused a n → x ≡ read a s t
     unfolding read readRefusal
-    read-no n w g q-is =
+    read-16 n h w = outside-first a (atRaw a (rawOf (a .nameplate) s t)) e n _ x w h e-is
+
+    pub read-no : (f : InForce) (n : ℕ) → e ≡ Taken f → q ≡ NotRead n → q ≡ numbered (a .nameplate) s t → x ≡ refused a n → x ≡ read a s t
+    unfolding read readRefusal
+    read-no f n h g q-is w =
         let i = reading-refused (a .nameplate) s t q n g q-is in
         w ∙ rw (stands-none a f (ready-of a e f h e-is), i .0) (next-first a (atRaw a (rawOf (a .nameplate) s t)) n _ (i .1))
 
-    pub read-number : (raw : ℕ) → q ≡ Number raw → q ≡ numbered (a .nameplate) s t → x ≡ readRaw a raw → x ≡ read a s t
-    unfolding read readRefusal readRaw readRawRefusal
-    read-number raw g q-is w =
-        let i = reading-taken (a .nameplate) s t q raw g q-is in
-        let z = stands-none a f (ready-of a e f h e-is) in
-        rw (z, i .0) (rw (z, i .1) at w)
-
-pub ruleset readings = (ready-of, take-to, take-no, read-raw-16, read-16, read-no, read-number)
+pub ruleset readings = (read-number, read-16, read-no)
 
 -- ---- the start
-module _ (n : Nameplate) (p : Parameters) (f : InForce) (raw : ℕ) (s : Sound f) (h : raw < f .capacity .0) (m : Moved) (x : Next) where
-  pub begin-to : (k : Travel) (y : Axis) → m ≡ To k → x ≡ accepted y → y ≡ fresh n p k → m ≡ begun f raw → x ≡ accepted (fresh n p (started f raw))
-  begin-to k y o w y-is m-is =
-      let c : To k ≡ To (started f raw) = sym o ∙ m-is ∙ begun-is f raw s h in
-      let k-is : k ≡ started f raw = cc in
-      w ∙ rw (y-is, k-is)
+module _ (n : Nameplate) (p : Parameters) (m : Moved) (x : Next) where
+  pub begun-at : (k : Travel) → m ≡ To k → x ≡ refused (fresh n p k) 0 → x ≡ begunBy n p m
+  begun-at k h w = rw h w
 
-  -- a raw number of the sensor is not refused
-  pub begin-never : (j : ℕ) → m ≡ NotMoved j → m ≡ begun f raw → x ≡ accepted (fresh n p (started f raw))
-  begin-never j o m-is =
-      let c : NotMoved j ≡ To (started f raw) = sym o ∙ m-is ∙ begun-is f raw s h in
-      let z : _≡_ {A = ℕ} 0 1 = cc in
-      absurd (omega arith)
+  pub begun-not : (j : ℕ) → m ≡ NotMoved j → x ≡ refused (fresh n p nowhere) j → x ≡ begunBy n p m
+  begun-not j h w = rw h w
 
-pub unstarted-is : (n : Nameplate) (p : Parameters) (y : Axis) (j : ℕ) (x : Next) → x ≡ refused y j → y ≡ fresh n p nowhere
-    → x ≡ refused (fresh n p nowhere) j
-unstarted-is n p y j x w y-is = w ∙ rw y-is
-
-raw-below : (n : Nameplate) (p : Parameters) (f : InForce) (raw : ℕ) → f ≡ rulesOf n (fieldsOf p) → raw < capacityOf n → raw < f .capacity .0
-unfolding rulesOf
-raw-below n p f raw f-is h = rw f-is h
+pub ruleset begins = (begun-at, begun-not)
 
 abbrev pub first : Nameplate → Parameters → ℕ → ℕ → Axis
 first n p s t = fresh n p (started (rulesOf n (fieldsOf p)) (rawOf n s t))
 
-module _ (n : Nameplate) (p : Parameters) (e : Effect) where
-  pub start-sound : (f : InForce) → e ≡ Taken f → e ≡ inForce n p → Sound f
-  start-sound f h e-is = let i = in-force-taken n p e f h e-is in rw (i .1) (taken-sound n p (i .0))
+module _ (n : Nameplate) (p : Parameters) (s t : ℕ) (e : Effect) (e-is : e ≡ inForce n p) (x : Next) where
+  pub start-parameters : (j : ℕ) → e ≡ NotInForce j → x ≡ refused (fresh n p nowhere) j → x ≡ start n p s t
+  unfolding start startRefusal
+  start-parameters j h w =
+      let i = in-force-refused n p e j h e-is in
+      w ∙ rw (i .0) (next-first (fresh n p nowhere) (first n p s t) j (stepRefusal n s t) (i .1))
 
-  module _ (s t : ℕ) (x : Next) where
-    pub start-parameters : (j : ℕ) → e ≡ NotInForce j → x ≡ refused (fresh n p nowhere) j → e ≡ inForce n p → x ≡ start n p s t
+  module _ (f : InForce) (h : e ≡ Taken f) (q : Reading) (q-is : q ≡ numbered n s t) where
+    pub start-reading : (j : ℕ) → q ≡ NotRead j → x ≡ refused (fresh n p nowhere) j → x ≡ start n p s t
     unfolding start startRefusal
-    start-parameters j h w e-is =
-        let i = in-force-refused n p e j h e-is in
-        w ∙ rw (i .0) (next-first (fresh n p nowhere) (first n p s t) j (stepRefusal n s t) (i .1))
+    start-reading j g w =
+        let i = reading-refused n s t q j g q-is in
+        w ∙ rw (in-force-taken n p e f h e-is .0, i .0) (next-refused (fresh n p nowhere) (first n p s t) j (i .1))
 
-  module _ (s t : ℕ) (f : InForce) (h : e ≡ Taken f) (q : Reading) where
-    pub start-lt : (raw : ℕ) → q ≡ Number raw → q ≡ numbered n s t → e ≡ inForce n p → raw < f .capacity .0
-    start-lt raw g q-is e-is =
+    -- a raw number of the sensor is not refused
+    pub start-to : (raw : ℕ) (m : Moved) → q ≡ Number raw → m ≡ begun f raw → x ≡ begunBy n p m → x ≡ start n p s t
+    unfolding start startRefusal rulesOf
+    start-to raw m g m-is w =
+        let i = in-force-taken n p e f h e-is in
         let j = reading-taken n s t q raw g q-is in
         let l : raw < capacityOf n = rw (j .1) (reading-lt n s t (j .0)) in
-        raw-below n p f raw (in-force-taken n p e f h e-is .1) l
-
-    module _ (x : Next) where
-      pub start-reading : (j : ℕ) → q ≡ NotRead j → x ≡ refused (fresh n p nowhere) j → q ≡ numbered n s t → e ≡ inForce n p → x ≡ start n p s t
-      unfolding start startRefusal
-      start-reading j g w q-is e-is =
-          let i = reading-refused n s t q j g q-is in
-          w ∙ rw (in-force-taken n p e f h e-is .0, i .0) (next-refused (fresh n p nowhere) (first n p s t) j (i .1))
-
-      pub start-to : (raw : ℕ) → q ≡ Number raw → x ≡ accepted (fresh n p (started f raw)) → q ≡ numbered n s t → e ≡ inForce n p → x ≡ start n p s t
-      unfolding start startRefusal
-      start-to raw g w q-is e-is =
-          let i = in-force-taken n p e f h e-is in
-          let j = reading-taken n s t q raw g q-is in
-          w ∙ rw (i .0, j .0, i .1, j .1)
+        let b : raw < f .capacity .0 = rw (i .1) l in
+        let k : m ≡ To (started f raw) = m-is ∙ begun-is f raw (rw (i .1) (taken-sound n p (i .0))) b in
+        w ∙ rw (k, i .0, j .0, i .1, j .1)
 
 -- a raw number, by its step and turn
 pub start-raw-is : (n : Nameplate) (p : Parameters) (raw : ℕ) (q : Sensed) (x : Next) → q ≡ sensed n raw → x ≡ start n p (q .step .0) (q .turn .0) → x ≡ startRaw n p raw
 unfolding startRaw
 start-raw-is n p raw q x q-is x-is = x-is ∙ ap (λ (k : Sensed). start n p (k .step .0) (k .turn .0)) q-is
 
-pub ruleset starts = (unstarted-is, begin-to, begin-never, start-sound, start-lt, start-parameters, start-reading, start-to, start-raw-is)
+pub ruleset starts = (start-parameters, start-reading, start-to, start-raw-is)

@@ -12,10 +12,10 @@ use Rattle.encoder.specs.declared.effect.Effect.the-variants.{Taken, Refused as
 use Rattle.encoder.specs.Refusal.{noAxis, when, answer}
 use Rattle.encoder.specs.Parameters.{fieldsOf, refusalOn}
 use Rattle.encoder.specs.InForce.{rulesOf}
+use Rattle.travel.specs.declared.Reported.{Reported}
+use Rattle.travel.specs.declared.Reported.the-variants.{At, Refused}
 use Rattle.travel.specs.Travel.{inside, Inside, unshifted, positionAt}
 use Rattle.axis.specs.declared.Axis.{Axis}
-use Rattle.axis.specs.declared.Reported.{Reported}
-use Rattle.axis.specs.declared.Reported.the-variants.{At, Refused}
 
 -- what is in force on an axis
 unfoldable pub rulesOn : Axis → InForce

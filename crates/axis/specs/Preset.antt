@@ -1,21 +1,17 @@
--- Presets, and the held preset value (document 01, "The axis", rule 6; "One cycle" on the held preset value; rows 11 and 12).
+-- Presets, and the held preset value (document 01, "The axis", rule 6; "One cycle" on the held preset value).
 -- Assumes nothing.
-use mathlib.Core.Bool.{Bool, cond, not}
+use mathlib.Core.Bool.{Bool, cond}
 use Prim.Native.Nat.{ℕ}
 use lib.IntN.{ℤ, pos, _+ℤ_, _-ℤ_}
 use Rattle.integer.specs.Modulus.{_modulo_}
-use Rattle.ring.specs.Ring.{inRange}
-use Rattle.encoder.specs.declared.effect.InForce.{InForce}
-use Rattle.encoder.specs.Refusal.{wrongPreset, classOff, when, _before_}
+use Rattle.encoder.specs.Refusal.{_before_}
+use Rattle.shift.specs.Shift.{valueRefusal}
 use Rattle.axis.specs.declared.Axis.{Axis}
 use Rattle.axis.specs.declared.Next.{Next}
 use Rattle.axis.specs.Axis.{rulesOn, axisRefusal, unshiftedOf, positionOf}
 use Rattle.axis.specs.Reading.{next}
 
--- 12: class bit 0. 11: v not between −L and L, ends excluded
-unfoldable pub valueRefusal : InForce → ℤ → ℕ
-valueRefusal f v = when (not (f .enabled)) classOff before when (not (inRange v (f .span .0))) wrongPreset
-
+-- 16, 12, 11
 unfoldable pub presetRefusal : Axis → ℤ → ℕ
 presetRefusal a v = axisRefusal a before valueRefusal (rulesOn a) v
 

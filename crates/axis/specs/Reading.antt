@@ -9,6 +9,8 @@ use Rattle.sensor.specs.Reading.{rawOf, stepRefusal, sensed}
 use Rattle.encoder.specs.Parameters.{fieldsOf, refusalOn}
 use Rattle.encoder.specs.InForce.{rulesOf}
 use Rattle.travel.specs.declared.Travel.{Travel}
+use Rattle.travel.specs.declared.Moved.{Moved}
+use Rattle.travel.specs.declared.Moved.the-variants.{To, Refused as NotMoved}
 use Rattle.travel.specs.Travel.{nowhere, started, travelRefusal, movedTo}
 use Rattle.axis.specs.declared.Axis.{Axis}
 use Rattle.axis.specs.declared.Next.{Next}
@@ -28,11 +30,15 @@ next a n b = answer (refused a) (accepted b) n
 abbrev pub fresh : Nameplate → Parameters → Travel → Axis
 fresh n p k = record { nameplate = n; parameters = p; travel = k; offset = pos 0; preset = pos 0; stored = pos 0 }
 
+-- by where the first reading leads; what a refused start leaves is no started axis: every call on it gets 16
+abbrev pub begunBy : Nameplate → Parameters → Moved → Next
+begunBy n p (To k) = accepted (fresh n p k)
+begunBy n p (NotMoved j) = refused (fresh n p nowhere) j
+
 -- 7, 3, 4, 5, 6, 8, 9
 unfoldable pub startRefusal : Nameplate → Parameters → ℕ → ℕ → ℕ
 startRefusal n p s t = refusalOn n p before stepRefusal n s t
 
--- what a refused start leaves is no started axis: every call on it gets 16
 unfoldable pub start : Nameplate → Parameters → ℕ → ℕ → Next
 start n p s t = next (fresh n p nowhere) (startRefusal n p s t) (fresh n p (started (rulesOf n (fieldsOf p)) (rawOf n s t)))
 

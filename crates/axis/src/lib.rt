@@ -5,13 +5,11 @@ mod preset;
 mod reading;
 
 ghost use mathlib.Core.Path.{_≡_};
-ghost use Rattle.axis.specs.Axis.{keeps, inForceOn};
+ghost use Rattle.axis.specs.Axis.{inForceOn};
 use encoder::effect::Effect;
-use encoder::effect::InForce;
 use encoder::effect::in_force;
 use encoder::nameplate::Nameplate;
 use encoder::parameters::Parameters;
-use encoder::quantity::Units;
 use encoder::refusal;
 use ring::between;
 use travel::Travel;
@@ -35,11 +33,6 @@ pub struct Next {
     pub refusal: u8,
 }
 
-pub enum Reported {
-    At { position: Units, unshifted: Units },
-    Refused(u8),
-}
-
 impl Axis {
     // What is in force, on an axis within its limits.
     pub fn rules(self) -> Effect
@@ -47,26 +40,19 @@ impl Axis {
     {
         let plate = self.nameplate;
         let parameters = self.parameters;
+        let travel = self.travel;
         match in_force(plate, parameters) {
             Effect::Taken(rules) => {
-                if self.keeps(rules) {
+                let span = rules.span.0;
+                let offset = between(self.offset, span);
+                let preset = between(self.preset, span);
+                let stored = between(self.stored, span);
+                if travel.inside(rules) & offset & preset & stored {
                     return Effect::Taken(rules);
                 }
                 Effect::Refused(refusal::NO_AXIS)
             }
             Effect::Refused(_) => Effect::Refused(refusal::NO_AXIS),
         }
-    }
-
-    // The numbers of the record are within what is in force.
-    fn keeps(self, rules: InForce) -> bool
-        ensures { λ r. ⌜ r ≡ keeps rules self ⌝ }
-    {
-        let span = rules.span.0;
-        let travel = self.travel;
-        let offset = between(self.offset, span);
-        let preset = between(self.preset, span);
-        let stored = between(self.stored, span);
-        travel.inside(rules) & offset & preset & stored
     }
 }

@@ -1,14 +1,9 @@
 // Start and reading (document 01, "The axis", rules 1 to 4). What a reading does to the place is the crate travel's.
 ghost use mathlib.Core.Path.{_≡_};
-ghost use Prim.Native.Nat.{_<_};
-ghost use Rattle.encoder.specs.InForce.{Sound};
-ghost use Rattle.travel.specs.Travel.{nowhere, started};
-ghost use Rattle.axis.specs.Axis.{Ready};
-ghost use Rattle.axis.specs.Reading.{accepted, refused, fresh, start, startRaw, readRaw, read};
+ghost use Rattle.axis.specs.Reading.{refused, fresh, begunBy, start, startRaw, readRaw, read};
 use crate::Axis;
 use crate::Next;
 use encoder::effect::Effect;
-use encoder::effect::InForce;
 use encoder::effect::in_force;
 use encoder::nameplate::Nameplate;
 use encoder::parameters::Parameters;
@@ -27,10 +22,10 @@ impl Axis {
     {
         match in_force(plate, parameters) {
             Effect::Taken(rules) => match raw_number(plate, step, turn) {
-                Reading::Number(raw) => Axis::begin(plate, parameters, rules, raw),
-                Reading::Refused(n) => Axis::unstarted(plate, parameters, n),
+                Reading::Number(raw) => Axis::begun(plate, parameters, Travel::begin(rules, raw)),
+                Reading::Refused(n) => Axis::begun(plate, parameters, Moved::Refused(n)),
             },
-            Effect::Refused(n) => Axis::unstarted(plate, parameters, n),
+            Effect::Refused(n) => Axis::begun(plate, parameters, Moved::Refused(n)),
         }
     }
 
@@ -42,43 +37,29 @@ impl Axis {
         Axis::start(plate, parameters, sensed.step, sensed.turn)
     }
 
-    // At a first reading that is one of the sensor's.
-    fn begin(plate: Nameplate, parameters: Parameters, rules: InForce, raw: u32) -> Next
-        requires { ⌜ Sound rules × (raw < rules .capacity .0) ⌝ }
-        ensures { λ r. ⌜ r ≡ accepted (fresh plate parameters (started rules raw)) ⌝ }
+    // By where the first reading leads: an axis there, or none and the number of the refusal.
+    fn begun(plate: Nameplate, parameters: Parameters, first: Moved) -> Next
+        ensures { λ r. ⌜ r ≡ begunBy plate parameters first ⌝ }
     {
-        match Travel::begin(rules, raw) {
-            Moved::To(travel) => Next {
-                axis: Axis::fresh(plate, parameters, travel),
-                refusal: 0,
-            },
-            // never: the raw number is one of the sensor's
-            Moved::Refused(n) => Axis::unstarted(plate, parameters, n),
+        match first {
+            Moved::To(travel) => Axis::fresh(plate, parameters, travel, 0),
+            Moved::Refused(n) => Axis::fresh(plate, parameters, Travel::NOWHERE, n),
         }
     }
 
-    // Before a first reading, and the number of the refusal.
-    fn unstarted(plate: Nameplate, parameters: Parameters, n: u8) -> Next
-        ensures { λ r. ⌜ r ≡ refused (fresh plate parameters nowhere) n ⌝ }
+    // An axis without offset and presets, beside the number of the refusal.
+    fn fresh(nameplate: Nameplate, parameters: Parameters, travel: Travel, refusal: u8) -> Next
+        ensures { λ r. ⌜ r ≡ refused (fresh nameplate parameters travel) refusal ⌝ }
     {
-        Next {
-            axis: Axis::fresh(plate, parameters, Travel::NOWHERE),
-            refusal: n,
-        }
-    }
-
-    // An axis without offset and presets.
-    fn fresh(nameplate: Nameplate, parameters: Parameters, travel: Travel) -> Axis
-        ensures { λ r. ⌜ r ≡ fresh nameplate parameters travel ⌝ }
-    {
-        Axis {
+        let axis = Axis {
             nameplate,
             parameters,
             travel,
             offset: 0,
             preset: 0,
             stored: 0,
-        }
+        };
+        Next { axis, refusal }
     }
 
     // A new reading, of the step within the turn and the turns counted.
@@ -87,12 +68,16 @@ impl Axis {
     {
         let axis = self;
         let plate = axis.nameplate;
-        match axis.rules() {
-            Effect::Taken(rules) => match raw_number(plate, step, turn) {
-                Reading::Number(raw) => axis.take(rules, raw),
-                Reading::Refused(n) => Next { axis, refusal: n },
+        match raw_number(plate, step, turn) {
+            Reading::Number(raw) => axis.read_raw(raw),
+            Reading::Refused(n) => match axis.rules() {
+                Effect::Taken(_) => Next { axis, refusal: n },
+                // 16 precedes 8 and 9
+                Effect::Refused(first) => Next {
+                    axis,
+                    refusal: first,
+                },
             },
-            Effect::Refused(n) => Next { axis, refusal: n },
         }
     }
 
@@ -100,26 +85,17 @@ impl Axis {
     pub fn read_raw(self, raw: u32) -> Next
         ensures { λ r. ⌜ r ≡ readRaw self raw ⌝ }
     {
-        let axis = self;
-        match axis.rules() {
-            Effect::Taken(rules) => axis.take(rules, raw),
-            Effect::Refused(n) => Next { axis, refusal: n },
-        }
-    }
-
-    // The same, of an axis within its limits.
-    fn take(self, rules: InForce, raw: u32) -> Next
-        requires { ⌜ Ready self rules ⌝ }
-        ensures { λ r. ⌜ r ≡ readRaw self raw ⌝ }
-    {
-        let travel = self.travel;
         let mut axis = self;
-        match travel.moved(rules, raw) {
-            Moved::To(here) => {
-                axis.travel = here;
-                Next { axis, refusal: 0 }
-            }
-            Moved::Refused(n) => Next { axis, refusal: n },
+        let travel = axis.travel;
+        match axis.rules() {
+            Effect::Taken(rules) => match travel.moved(rules, raw) {
+                Moved::To(here) => {
+                    axis.travel = here;
+                    Next { axis, refusal: 0 }
+                }
+                Moved::Refused(n) => Next { axis, refusal: n },
+            },
+            Effect::Refused(n) => Next { axis, refusal: n },
         }
     }
 }

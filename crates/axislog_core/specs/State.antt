@@ -11,10 +11,10 @@ use Rattle.encoder.specs.declared.parameters.Parameters.the-variants.{Class2}
 use Rattle.encoder.specs.Refusal.{noForm, noAxis, answer}
 use Rattle.encoder.specs.Parameters.{refusalOn}
 use Rattle.travel.specs.Travel.{nowhere}
+use Rattle.travel.specs.declared.Reported.{Reported}
+use Rattle.travel.specs.declared.Reported.the-variants.{At as Found, Refused as Outside}
 use Rattle.axis.specs.declared.Axis.{Axis}
 use Rattle.axis.specs.declared.Next.{Next}
-use Rattle.axis.specs.declared.Reported.{Reported}
-use Rattle.axis.specs.declared.Reported.the-variants.{At as Found, Refused as Outside}
 use Rattle.axis.specs.Axis.{reported}
 use Rattle.axis.specs.Reading.{fresh, startRaw, readRaw}
 use Rattle.axis.specs.Preset.{preset as presetOn}

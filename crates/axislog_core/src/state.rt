@@ -4,7 +4,6 @@ ghost use Rattle.axislog_core.specs.State.{empty, unstarted, plateOf, pa
 use answers::Answer;
 use axis::Axis;
 use axis::Next;
-use axis::Reported;
 use encoder::nameplate::Nameplate;
 use encoder::parameters::Parameters;
 use encoder::quantity::Steps;
@@ -13,6 +12,7 @@ use encoder::quantity::Units;
 use encoder::refusal;
 use forms::Form;
 use forms::Setup;
+use travel::Reported;
 use travel::Travel;
 
 pub enum Stage {

@@ -13,10 +13,10 @@ use mir.ValLaws.{toZ-pos}
 use Rattle.integer.specs.Octets.{octets}
 use Rattle.encoder.specs.declared.quantity.Units.{Units}
 use Rattle.encoder.specs.declared.effect.InForce.{InForce}
+use Rattle.travel.specs.declared.Reported.{Reported}
+use Rattle.travel.specs.declared.Reported.the-variants.{At, Refused}
 use Rattle.axis.specs.declared.Axis.{Axis}
 use Rattle.axis.specs.declared.Next.{Next}
-use Rattle.axis.specs.declared.Reported.{Reported}
-use Rattle.axis.specs.declared.Reported.the-variants.{At, Refused}
 use Rattle.axis.specs.Axis.{rulesOn, Ready, reported}
 use Rattle.axis.specs.Preset.{preset}
 use Rattle.axis.proofs.AxisLaws.{limits-of}

@@ -16,10 +16,10 @@ use Rattle.encoder.specs.declared.quantity.Units.{Units}
 use Rattle.encoder.specs.declared.parameters.Fields.{Fields}
 use Rattle.encoder.specs.declared.effect.InForce.{InForce}
 use Rattle.encoder.specs.Parameters.{fieldsOf}
+use Rattle.travel.specs.declared.Reported.{Reported}
+use Rattle.travel.specs.declared.Reported.the-variants.{At, Refused}
 use Rattle.axis.specs.declared.Axis.{Axis}
 use Rattle.axis.specs.declared.Next.{Next}
-use Rattle.axis.specs.declared.Reported.{Reported}
-use Rattle.axis.specs.declared.Reported.the-variants.{At, Refused}
 use Rattle.axis.specs.Axis.{rulesOn, Ready, unshiftedOf, positionOf, reported}
 use Rattle.axis.specs.Preset.{preset}
 use Rattle.axis.proofs.AxisLaws.{limits-of}

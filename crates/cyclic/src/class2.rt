@@ -7,7 +7,6 @@ ghost use Rattle.cyclic.specs.Class2 as Class2;
 ghost use Rattle.cyclic.specs.Cycle.{four, cycle, cycleInput};
 use crate::Cycled;
 use axis::Axis;
-use axis::Reported;
 use encoder::effect::InForce;
 use link::Link;
 use link::class2::linked;
@@ -15,6 +14,7 @@ use link::class2::made;
 use link::class2::value;
 use octets::number;
 use octets::put_number;
+use travel::Reported;
 
 // The cycle of an axis within its limits, with buffers of this class's lengths. A raw number that would be refused makes it faulty.
 pub(crate) fn run(

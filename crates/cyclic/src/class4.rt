@@ -7,7 +7,6 @@ ghost use Rattle.cyclic.specs.Class4 as Class4;
 ghost use Rattle.cyclic.specs.Cycle.{four, cycle, cycleInput};
 use crate::Cycled;
 use axis::Axis;
-use axis::Reported;
 use encoder::effect::InForce;
 use encoder::quantity::Units;
 use link::Link;
@@ -17,6 +16,7 @@ use link::class4::zsw;
 use octets::bit;
 use octets::number;
 use octets::put_number;
+use travel::Reported;
 
 // The bit of STW2_ENC without which G1_STW counts as 0.
 const CONTROLLED: u32 = 10;

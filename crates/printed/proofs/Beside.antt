@@ -7,9 +7,9 @@ use lib.IntN.{ℤ}
 use Rattle.integer.specs.Modulus.{_modulo_}
 use Rattle.encoder.specs.Refusal.{answer}
 use Rattle.encoder.specs.Parameters.{refusalOn}
+use Rattle.travel.specs.declared.Reported.{Reported}
+use Rattle.travel.specs.declared.Reported.the-variants.{At as Found, Refused as Outside}
 use Rattle.axis.specs.declared.Axis.{Axis}
-use Rattle.axis.specs.declared.Reported.{Reported}
-use Rattle.axis.specs.declared.Reported.the-variants.{At as Found, Refused as Outside}
 use Rattle.axis.specs.Axis.{reported}
 use Rattle.link.specs.Link.{quiet}
 use Rattle.accuracy.specs.Ledger.{Device, force, Ledger}

@@ -8,12 +8,13 @@ use native.Mathlib.Omega.{arith}
 use lib.IntN.{ℤ}
 use Rattle.integer.specs.Modulus.{_modulo_}
 use Rattle.encoder.specs.Refusal.{_before_, answer}
+use Rattle.travel.specs.declared.Reported.{Reported}
+use Rattle.travel.specs.declared.Reported.the-variants.{At as Found, Refused as Outside}
+use Rattle.shift.specs.Shift.{valueRefusal}
 use Rattle.axis.specs.declared.Axis.{Axis}
-use Rattle.axis.specs.declared.Reported.{Reported}
-use Rattle.axis.specs.declared.Reported.the-variants.{At as Found, Refused as Outside}
 use Rattle.axis.specs.Axis.{rulesOn, axisRefusal, positionOf, unshiftedOf, reported}
 use Rattle.axis.specs.Reading.{next, atRaw, readRawRefusal, readRaw}
-use Rattle.axis.specs.Preset.{valueRefusal, presetRefusal, presetted, preset as presetOn}
+use Rattle.axis.specs.Preset.{presetRefusal, presetted, preset as presetOn}
 use Rattle.accuracy.specs.Calls.{Call, rawReading, presetting}
 use Rattle.accuracy.specs.Ledger.{Device, Deed, force, Ledger, refusalBy, moves, does, noted}
 use Rattle.accuracy.specs.Claim.{Event, Supposed, Puts as Placed, Reports, Accurate, number}

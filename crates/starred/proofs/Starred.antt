@@ -11,9 +11,10 @@ use Rattle.encoder.specs.Parameters.{fieldsRefusal, refusalOn}
 use Rattle.encoder.specs.InForce.{rulesOf, inForce, rulesFit}
 use Rattle.reader.specs.Read.{telegramRefusal, readTelegram}
 use Rattle.travel.specs.Travel.{inside, oriented, started, difference, shorter, moveOf, moveRefusal, movedTo, unshifted, positionAt, travelRefusal}
+use Rattle.shift.specs.Shift.{valueRefusal}
 use Rattle.axis.specs.Axis.{rulesOn, acceptable, axisRefusal, unshiftedOf, positionOf, reported}
 use Rattle.axis.specs.Reading.{startRefusal, start, atRaw, readRawRefusal, readRaw}
-use Rattle.axis.specs.Preset.{valueRefusal, presetRefusal, asked, presetted, preset}
+use Rattle.axis.specs.Preset.{presetRefusal, asked, presetted, preset}
 use Rattle.velocity.specs.Velocity.{factorOf, rateOf, velocityRefusal, velocityAt}
 use Rattle.starred.specs.Starred.{Starred, starred}
 

@@ -14,9 +14,9 @@ use Rattle.encoder.specs.InForce.{inForce}
 use Rattle.reader.specs.declared.Received.{Received}
 use Rattle.reader.specs.declared.Received.the-variants.{Taken, Refused}
 use Rattle.reader.specs.Read.{readTelegram}
+use Rattle.travel.specs.declared.Reported.{Reported}
+use Rattle.travel.specs.declared.Reported.the-variants.{At, Refused as NotReported}
 use Rattle.axis.specs.declared.Axis.{Axis}
-use Rattle.axis.specs.declared.Reported.{Reported}
-use Rattle.axis.specs.declared.Reported.the-variants.{At, Refused as NotReported}
 use Rattle.axis.specs.Axis.{reported}
 use Rattle.axis.specs.Reading.{start, readRaw}
 use Rattle.axis.specs.Preset.{preset}

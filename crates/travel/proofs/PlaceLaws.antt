@@ -16,7 +16,7 @@ use Rattle.ring.proofs.RingLaws.{on-ring}
 use Rattle.encoder.specs.declared.effect.InForce.{InForce}
 use Rattle.encoder.specs.InForce.{Sound}
 use Rattle.travel.specs.declared.Travel.{Travel}
-use Rattle.travel.specs.Travel.{ring, Inside, oriented, started, moveOf, movedTo, unshifted, positionAt}
+use Rattle.travel.specs.Travel.{ring, Inside, moveOf, movedTo, unshifted, positionAt}
 use Rattle.travel.proofs.SensorLaws.{move-fits}
 
 -- ---- R × L
@@ -30,21 +30,16 @@ module _ (f : InForce) (s : Sound f) where
   pub ring-fits : Fits w64 (ring f)
   ring-fits = record { fits = omega (arith, ring-most) }
 
-  pub started-is : (raw first : ℕ) → first ≡ oriented f raw
-      → record { place = record { 0 = first % ring f }; last = record { 0 = raw } } ≡ started f raw
-  unfolding started
-  started-is raw first e = rw e
-
 module _ (f : InForce) (k : Travel) (i : Inside f k) where
   -- ---- a reading
-  pub moved-is : (raw r : ℕ) (d : ℤ) → d ≡ moveOf f (k .last .0) raw → r ≡ onRing (pos (k .place .0) +ℤ toZ w64 (ofZ w64 d)) (ring f)
+  pub moved-is : (raw r n : ℕ) (d : ℤ) → d ≡ moveOf f (k .last .0) raw → n ≡ ring f → r ≡ onRing (pos (k .place .0) +ℤ toZ w64 (ofZ w64 d)) n
       → record { place = record { 0 = r }; last = record { 0 = raw } } ≡ movedTo f k raw
   unfolding movedTo
-  moved-is raw r d d-is r-is =
+  moved-is raw r n d d-is n-is r-is =
       let z = moveOf f (k .last .0) raw in
       let h = ring-least f (i .sound) in
       let fits : SFits w64 d = rw d-is (move-fits f (k .last .0) raw (i .sound)) in
-      let e : r ≡ (pos (k .place .0) +ℤ z) modulo ring f = r-is ∙ rw (reads fits, on-ring _ _ h, d-is) in
+      let e : r ≡ (pos (k .place .0) +ℤ z) modulo ring f = r-is ∙ rw (reads fits, n-is, on-ring _ _ h, d-is) in
       let p : r ≡ movedTo f k raw .place .0
       = e ∙ modulo-alike (pos (k .place .0) +ℤ z) _ 0 0 h (omega (arith, add-is (pos (k .place .0)) z, add-is z (pos (k .place .0)))) in
       rw p
@@ -80,4 +75,4 @@ module _ (f : InForce) (k : Travel) (i : Inside f k) where
       let e : r ≡ (x +ℤ offset) modulo f .span .0 = r-is ∙ rw (reads fits, on-ring _ _ h, u-is) in
       e ∙ modulo-alike (x +ℤ offset) _ 0 0 h (omega (arith, add-is x offset, add-is offset x))
 
-pub ruleset places = (ring-fits, ring-least, started-is, moved-is, units-fit, span-fits, span-lt, unshifted-is, position-fits, position-is)
+pub ruleset places = (ring-fits, ring-least, moved-is, units-fit, span-fits, span-lt, unshifted-is, position-fits, position-is)

@@ -2,14 +2,14 @@
 -- Assumes nothing.
 use mathlib.Core.Path.{_≡_, refl, sym, _∙_}
 use mathlib.Core.Bool.{Bool, true, false, not, _&&_}
-use Prim.Native.Nat.{ℕ, zero, suc, _≤_, _<_}
+use Prim.Native.Nat.{ℕ, zero, suc, _%_, _≤_, _<_}
 use native.Mathlib.Omega.{arith}
 use native.Mathlib.Nat as N
 use lib.Dec.{ltb}
 use lib.IntN.{ℤ}
 use borrow.Author.Tests.{not-true, not-false, lt-ltb, ltb-true, le-leb, lt-leb}
 use mir.Syntax.{w64}
-use mir.Val.{toZ, ofZ}
+use mir.Val.{SFits, toZ, ofZ}
 use Rattle.integer.proofs.Size.{reads}
 use Rattle.integer.proofs.Modulus.{modulo-lt}
 use Rattle.encoder.specs.declared.quantity.Units.{Units}
@@ -24,8 +24,8 @@ use Rattle.travel.specs.declared.Moved.{Moved}
 use Rattle.travel.specs.declared.Moved.the-variants.{To, Refused as NotMoved}
 use Rattle.travel.specs.declared.Approach.{Approach}
 use Rattle.travel.specs.declared.Approach.the-variants.{By, Refused as NotApproached}
-use Rattle.travel.specs.declared.Scaled.the-variants.{At, Refused as NotScaled}
-use Rattle.travel.specs.Travel.{ring, inside, Inside, nowhere, oriented, started, moveOf, moveRefusal, movedTo, unshifted, beginRefusal, begun, travelRefusal, approached, moved, scaled}
+use Rattle.travel.specs.declared.Reported.the-variants.{At, Refused}
+use Rattle.travel.specs.Travel.{ring, inside, Inside, nowhere, oriented, started, moveOf, moveRefusal, movedTo, unshifted, positionAt, beginRefusal, begun, travelRefusal, approached, moved, reportedAt}
 use Rattle.travel.proofs.SensorLaws.{move-fits, taken-lt}
 use Rattle.travel.proofs.PlaceLaws.{ring-least}
 
@@ -64,10 +64,10 @@ module _ (f : InForce) (b : Bool) where
   unfolding inside
   inside-no k t e = rw (← e, not-true b t)
 
-  pub inside-on : (k : Travel) (r : Bool) → not b ≡ false → b ≡ rulesFit f
-      → r ≡ (ltb (k .place .0) (ring f) && ltb (k .last .0) (f .capacity .0)) → r ≡ inside f k
+  pub inside-on : (k : Travel) (n : ℕ) → n ≡ ring f → not b ≡ false → b ≡ rulesFit f
+      → (ltb (k .place .0) n && ltb (k .last .0) (f .capacity .0)) ≡ inside f k
   unfolding inside
-  inside-on k r t e h = rw (← e, not-false b t) h
+  inside-on k n n-is t e = rw (← e, not-false b t, n-is)
 
 pub ruleset limits = (sound-by, inside-no, inside-on)
 
@@ -81,9 +81,10 @@ module _ (f : InForce) (raw : ℕ) (b : Bool) where
   unfolding begun beginRefusal
   begun-9 h t e = rw (← e, not-false b t, le-leb _ _ h)
 
-  pub begun-to : (k : Travel) → k ≡ started f raw → raw < f .capacity .0 → not b ≡ false → b ≡ rulesFit f → To k ≡ begun f raw
-  unfolding begun beginRefusal
-  begun-to k k-is h t e = rw (← e, not-false b t, lt-leb _ _ h, k-is)
+  pub begun-to : (first n : ℕ) → first ≡ oriented f raw → n ≡ ring f → raw < f .capacity .0 → not b ≡ false → b ≡ rulesFit f
+      → To (record { place = record { 0 = first % n }; last = record { 0 = raw } }) ≡ begun f raw
+  unfolding begun beginRefusal started
+  begun-to first n first-is n-is h t e = rw (← e, not-false b t, lt-leb _ _ h, first-is, n-is)
 
 pub ruleset starts = (sound-by, begun-16, begun-9, begun-to)
 
@@ -98,13 +99,15 @@ module _ (f : InForce) (k : Travel) (b : Bool) where
   pub inside-last : not b ≡ false → b ≡ inside f k → k .last .0 < f .capacity .0
   inside-last t e = inside-by t e .last
 
-  pub scaled-16 : not b ≡ true → b ≡ inside f k → NotScaled 16 ≡ scaled f k
-  unfolding scaled
-  scaled-16 t e = rw (← e, not-true b t)
+  module _ (offset : ℤ) (fits : SFits w64 offset) where
+    pub reported-16 : not b ≡ true → b ≡ inside f k → Refused 16 ≡ reportedAt f offset k
+    unfolding reportedAt
+    reported-16 t e = rw (← e, not-true b t)
 
-  pub scaled-at : (u : Units) → u .0 ≡ unshifted f k → not b ≡ false → b ≡ inside f k → At u ≡ scaled f k
-  unfolding scaled
-  scaled-at u u-is t e = rw (← e, not-false b t, ← u-is)
+    pub reported-at : (p : ℕ) (u : Units) → p ≡ positionAt f (toZ w64 (ofZ w64 offset)) k → u .0 ≡ unshifted f k → not b ≡ false → b ≡ inside f k
+        → At (record { 0 = p }) u ≡ reportedAt f offset k
+    unfolding reportedAt
+    reported-at p u p-is u-is t e = rw (← e, not-false b t, p-is, ← u-is, reads fits)
 
   module _ (raw : ℕ) where
     pub approached-16 : not b ≡ true → b ≡ inside f k → NotApproached 16 ≡ approached f k raw
@@ -140,8 +143,8 @@ pub ruleset readings = (
   inside-last,
   inside-by,
   taken-lt,
-  scaled-16,
-  scaled-at,
+  reported-16,
+  reported-at,
   approached-16,
   approached-no,
   approached-by,
@@ -172,9 +175,9 @@ module _ (f : InForce) (k : Travel) (i : Inside f k) where
   unfolding travelRefusal
   read-refusal raw = rw (inside-is f k i)
 
-  pub scaled-is : scaled f k ≡ At (record { 0 = unshifted f k })
-  unfolding scaled
-  scaled-is = rw (inside-is f k i)
+  pub reported-is : (offset : ℤ) → reportedAt f offset k ≡ At (record { 0 = positionAt f offset k }) (record { 0 = unshifted f k })
+  unfolding reportedAt
+  reported-is offset = rw (inside-is f k i)
 
 pub begun-is : (f : InForce) (raw : ℕ) → Sound f → raw < f .capacity .0 → begun f raw ≡ To (started f raw)
 unfolding begun beginRefusal

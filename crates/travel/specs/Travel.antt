@@ -13,8 +13,8 @@ use Rattle.travel.specs.declared.Moved.{Moved}
 use Rattle.travel.specs.declared.Moved.the-variants.{To, Refused as NotMoved}
 use Rattle.travel.specs.declared.Approach.{Approach}
 use Rattle.travel.specs.declared.Approach.the-variants.{By, Refused as NotApproached}
-use Rattle.travel.specs.declared.Scaled.{Scaled}
-use Rattle.travel.specs.declared.Scaled.the-variants.{At, Refused as NotScaled}
+use Rattle.travel.specs.declared.Reported.{Reported}
+use Rattle.travel.specs.declared.Reported.the-variants.{At, Refused}
 
 -- R × L: so many steps are a whole number of turns, and as positions a whole number of total ranges
 abbrev pub ring : InForce → ℕ
@@ -86,5 +86,5 @@ approached f k raw = answer NotApproached (By (moveOf f (k .last .0) raw)) (trav
 unfoldable pub moved : InForce → Travel → ℕ → Moved
 moved f k raw = answer NotMoved (To (movedTo f k raw)) (travelRefusal f k raw)
 
-unfoldable pub scaled : InForce → Travel → Scaled
-scaled f k = answer NotScaled (At (record { 0 = unshifted f k })) (when (not (inside f k)) noAxis)
+unfoldable pub reportedAt : InForce → ℤ → Travel → Reported
+reportedAt f offset k = answer Refused (At (record { 0 = positionAt f offset k }) (record { 0 = unshifted f k })) (when (not (inside f k)) noAxis)

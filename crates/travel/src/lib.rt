@@ -5,15 +5,17 @@ mod raw;
 
 ghost use mathlib.Core.Path.{_≡_};
 ghost use Rattle.encoder.specs.InForce.{rulesFit};
-ghost use Rattle.travel.specs.Travel.{inside, begun, approached, moved, scaled};
+ghost use Rattle.travel.specs.Travel.{inside, begun, approached, moved, reportedAt};
 ghost use Rattle.travel.specs.Batch.{batched, batchedList};
 use encoder::effect::InForce;
 use encoder::quantity::Steps;
 use encoder::quantity::Units;
 use encoder::refusal;
+use place::places;
 use raw::first_refusal;
 use raw::move_refusal;
 use raw::move_to;
+use raw::oriented;
 use ring::between;
 
 pub struct Travel {
@@ -33,8 +35,8 @@ pub enum Approach {
     Refused(u8),
 }
 
-pub enum Scaled {
-    At(Units),
+pub enum Reported {
+    At { position: Units, unshifted: Units },
     Refused(u8),
 }
 
@@ -52,10 +54,13 @@ impl Travel {
         if !sound(rules) {
             return Moved::Refused(refusal::NO_AXIS);
         }
-        if rules.capacity.0 <= raw as u64 {
+        let last = Steps(raw as u64);
+        if rules.capacity.0 <= last.0 {
             return Moved::Refused(refusal::TURN);
         }
-        Moved::To(Travel::start(rules, raw))
+        let first = oriented(rules, last);
+        let place = Steps(first.0 % places(rules));
+        Moved::To(Travel { place, last })
     }
 
     // Within its limits.
@@ -65,7 +70,7 @@ impl Travel {
         if !sound(rules) {
             return false;
         }
-        self.on_ring(rules)
+        (self.place.0 < places(rules)) & (self.last.0 < rules.capacity.0)
     }
 
     // How far a new reading lies from the last, the shorter way.
@@ -96,14 +101,17 @@ impl Travel {
         Moved::To(self.advanced(rules, raw))
     }
 
-    // The unshifted position.
-    pub fn scaled(self, rules: InForce) -> Scaled
-        ensures { λ r. ⌜ r ≡ scaled rules self ⌝ }
+    // The position under an offset, and the unshifted one.
+    pub fn reported(self, rules: InForce, offset: i64) -> Reported
+        ensures { λ r. ⌜ r ≡ reportedAt rules offset self ⌝ }
     {
         if !self.inside(rules) {
-            return Scaled::Refused(refusal::NO_AXIS);
+            return Reported::Refused(refusal::NO_AXIS);
         }
-        Scaled::At(self.units(rules))
+        Reported::At {
+            position: Units(self.position(rules, offset)),
+            unshifted: self.units(rules),
+        }
     }
 
     // New readings one after the other, with the position at each: all of them, or none.

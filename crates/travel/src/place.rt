@@ -1,40 +1,25 @@
 // The place, kept modulo R x L, and the position that it stands for (document 01, "The axis", rules 2 to 5 and 7).
 ghost use mathlib.Core.Path.{_≡_};
-ghost use mathlib.Core.Bool.{_&&_};
-ghost use Prim.Native.Nat.{_<_, _*_};
-ghost use lib.Dec.{ltb};
+ghost use Prim.Native.Nat.{_<_};
 ghost use lib.ListN.{length};
 ghost use Rattle.encoder.specs.InForce.{Sound};
-ghost use Rattle.travel.specs.Travel.{Inside, ring, started, movedTo, unshifted, positionAt};
+ghost use Rattle.travel.specs.Travel.{ring, Inside, movedTo, unshifted, positionAt};
 ghost use Rattle.travel.specs.Batch.{refusalIn, after, positionsIn};
 use crate::Travel;
 use crate::raw::move_to;
-use crate::raw::oriented;
 use encoder::effect::InForce;
 use encoder::quantity::Steps;
 use encoder::quantity::Units;
 
+// How many places there are: R x L.
+pub(crate) fn places(rules: InForce) -> u64
+    requires { ⌜ Sound rules ⌝ }
+    ensures { λ r. ⌜ (r ≡ ring rules) × (0 < r) ⌝ }
+{
+    rules.steps.0 * rules.span.0 as u64
+}
+
 impl Travel {
-    pub(crate) fn start(rules: InForce, raw: u32) -> Travel
-        requires { ⌜ Sound rules × (raw < rules .capacity .0) ⌝ }
-        ensures { λ r. ⌜ r ≡ started rules raw ⌝ }
-    {
-        let last = Steps(raw as u64);
-        let first = oriented(rules, last);
-        Travel {
-            place: Steps(first.0 % (rules.steps.0 * rules.span.0 as u64)),
-            last,
-        }
-    }
-
-    // Place and last reading are within their limits.
-    pub(crate) fn on_ring(self, rules: InForce) -> bool
-        requires { ⌜ Sound rules ⌝ }
-        ensures { λ r. ⌜ r ≡ (ltb (self .place .0) (ring rules) && ltb (self .last .0) (rules .capacity .0)) ⌝ }
-    {
-        (self.place.0 < rules.steps.0 * rules.span.0 as u64) & (self.last.0 < rules.capacity.0)
-    }
-
     // At a new reading that is taken.
     pub(crate) fn advanced(self, rules: InForce, raw: u32) -> Travel
         requires { ⌜ Inside rules self × (raw < rules .capacity .0) ⌝ }
@@ -42,7 +27,7 @@ impl Travel {
     {
         let last = Steps(raw as u64);
         let d = move_to(rules, self.last, raw);
-        let place = Steps(ring::moved(self.place.0, d, rules.steps.0 * rules.span.0 as u64));
+        let place = Steps(ring::moved(self.place.0, d, places(rules)));
         Travel { place, last }
     }
 
@@ -55,7 +40,7 @@ impl Travel {
     }
 
     // The position.
-    fn position(self, rules: InForce, offset: i64) -> u32
+    pub(crate) fn position(self, rules: InForce, offset: i64) -> u32
         requires { ⌜ Inside rules self ⌝ }
         ensures { λ r. ⌜ r ≡ positionAt rules offset self ⌝ }
     {

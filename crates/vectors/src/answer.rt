@@ -1,7 +1,6 @@
 // Answers in words: what is in force, the octets of a buffer, or the number of the refusal.
 use axis::Axis;
 use axis::Next;
-use axis::Reported;
 use cyclic::Cycled;
 use diagnosis::Diagnosed;
 use encoder::effect::Effect;
@@ -11,6 +10,7 @@ use encoder::nameplate::Nameplate;
 use libc::STDOUT_FILENO;
 use reader::Received;
 use ring::magnitude;
+use travel::Reported;
 use velocity::Speed;
 use writer::Written;
 

@@ -11,8 +11,7 @@ position-spec =
     (tie.spec
     (λ c κs. search needs)
     (λ c. search needs)
-    (λ c κs. search (needs, positions))
-    (λ c κs. search (needs, positions))
+    (λ c κs. search needs)
     (λ c. search needs)
     (λ c. search (needs, positions))
     (λ c. search (needs, positions)))

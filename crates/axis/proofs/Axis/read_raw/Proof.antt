@@ -1,7 +1,7 @@
 -- By the laws of ReadingLaws, one for each way out.
 -- Assumes nothing.
 use borrow.Author.Needs.{needs}
-use Rattle.axis.proofs.ReadingLaws.{readings}
+use Rattle.axis.proofs.ReadingLaws.{raws}
 use Rattle.axis.proofs.Axis.read_raw.Statement.{statement}
 use Rattle.axis.proofs.Axis.read_raw.Tie as tie
 
@@ -11,7 +11,10 @@ read-raw-spec =
     (tie.spec
     (λ c κs. search needs)
     (λ c. search needs)
-    (λ c κs. search (needs, readings))
+    (λ c κs. search needs)
     (λ c. search needs)
     (λ c. search needs)
-    (λ c. search (needs, readings)))
+    (λ c. search needs)
+    (λ c. search (needs, raws))
+    (λ c. search (needs, raws))
+    (λ c. search (needs, raws)))

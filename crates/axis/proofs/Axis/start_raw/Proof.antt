@@ -1,4 +1,4 @@
--- By the laws of ReadingLaws.
+-- By the laws of ReadingLaws, one for each way out.
 -- Assumes nothing.
 use borrow.Author.Needs.{needs}
 use Rattle.axis.proofs.ReadingLaws.{starts}

@@ -1,7 +1,7 @@
 -- By the laws of PresetLaws, one for each way out.
 -- Assumes nothing.
 use borrow.Author.Needs.{needs}
-use Rattle.axis.proofs.PresetLaws.{presets}
+use Rattle.axis.proofs.PresetLaws.{stores}
 use Rattle.axis.proofs.Axis.store.Statement.{statement}
 use Rattle.axis.proofs.Axis.store.Tie as tie
 
@@ -11,7 +11,8 @@ store-spec =
     (tie.spec
     (λ c κs. search needs)
     (λ c. search needs)
-    (λ c κs. search (needs, presets))
+    (λ c κs. search needs)
+    (λ c. search (needs, stores))
     (λ c. search needs)
-    (λ c. search (needs, presets))
-    (λ c. search (needs, presets)))
+    (λ c. search (needs, stores))
+    (λ c. search (needs, stores)))

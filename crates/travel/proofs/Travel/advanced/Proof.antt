@@ -10,7 +10,6 @@ advanced-spec =
     tie.close
     (tie.spec
     (λ c κs. search needs)
-    (λ c. search needs)
-    (λ c. search (needs, places))
+    (λ c κs. search needs)
     (λ c κs. search needs)
     (λ c. search (needs, places)))

@@ -13,4 +13,6 @@ begin-spec =
     (λ c. search (needs, starts))
     (λ c. search (needs, starts))
     (λ c κs. search (needs, starts))
+    (λ c κs. search (needs, starts))
+    (λ c. search needs)
     (λ c. search (needs, starts)))

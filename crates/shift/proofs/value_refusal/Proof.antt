@@ -1,9 +1,9 @@
--- By the laws of PresetLaws, one for each way out.
+-- By the laws of ShiftLaws, one for each way out.
 -- Assumes nothing.
 use borrow.Author.Needs.{needs}
-use Rattle.axis.proofs.PresetLaws.{values}
-use Rattle.axis.proofs.preset.value_refusal.Statement.{statement}
-use Rattle.axis.proofs.preset.value_refusal.Tie as tie
+use Rattle.shift.proofs.ShiftLaws.{values}
+use Rattle.shift.proofs.value_refusal.Statement.{statement}
+use Rattle.shift.proofs.value_refusal.Tie as tie
 
 pub value-refusal-spec : {M : Type 1} → statement M
 value-refusal-spec =

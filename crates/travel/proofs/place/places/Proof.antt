@@ -2,15 +2,13 @@
 -- Assumes nothing.
 use borrow.Author.Needs.{needs}
 use Rattle.travel.proofs.PlaceLaws.{places}
-use Rattle.travel.proofs.Travel.start.Statement.{statement}
-use Rattle.travel.proofs.Travel.start.Tie as tie
+use Rattle.travel.proofs.place.places.Statement.{statement}
+use Rattle.travel.proofs.place.places.Tie as tie
 
-pub start-spec : {M : Type 1} → statement M
-start-spec =
+pub places-spec : {M : Type 1} → statement M
+places-spec =
     tie.close
     (tie.spec
-    (λ c κs. search needs)
     (λ c. search needs)
-    (λ c. search (needs, places))
     (λ c. search (needs, places))
     (λ c. search (needs, places)))

@@ -2,14 +2,15 @@
 -- Assumes nothing.
 use borrow.Author.Needs.{needs}
 use Rattle.travel.proofs.TravelLaws.{readings}
-use Rattle.travel.proofs.Travel.scaled.Statement.{statement}
-use Rattle.travel.proofs.Travel.scaled.Tie as tie
+use Rattle.travel.proofs.Travel.reported.Statement.{statement}
+use Rattle.travel.proofs.Travel.reported.Tie as tie
 
-pub scaled-spec : {M : Type 1} → statement M
-scaled-spec =
+pub reported-spec : {M : Type 1} → statement M
+reported-spec =
     tie.close
     (tie.spec
     (λ c κs. search needs)
     (λ c. search (needs, readings))
+    (λ c κs. search (needs, readings))
     (λ c κs. search (needs, readings))
     (λ c. search (needs, readings)))

@@ -1,0 +1,16 @@
+-- Presets on numbers alone (document 01, "The axis", rule 6; rows 11 and 12).
+-- Assumes nothing.
+use mathlib.Core.Bool.{Bool, cond, not}
+use Prim.Native.Nat.{ℕ}
+use lib.IntN.{ℤ, pos, _+ℤ_, _-ℤ_}
+use Rattle.ring.specs.Ring.{onRing, inRange}
+use Rattle.encoder.specs.declared.effect.InForce.{InForce}
+use Rattle.encoder.specs.Refusal.{wrongPreset, classOff, when, _before_}
+
+-- 12: class bit 0. 11: v not between −L and L, ends excluded
+unfoldable pub valueRefusal : InForce → ℤ → ℕ
+valueRefusal f v = when (not (f .enabled)) classOff before when (not (inRange v (f .span .0))) wrongPreset
+
+-- the offset by which the unshifted position u comes to v on a ring of n, or to v further on than the position
+unfoldable pub offsetBy : ℕ → ℕ → ℕ → ℤ → Bool → ℤ
+offsetBy n position u v relative = pos (onRing (cond relative (pos position +ℤ v) v) n) -ℤ pos u
