@@ -13,14 +13,14 @@ use native.Mathlib.Omega.{arith}
 use borrow.Author.Tests.{eq-eqb, ne-eqb}
 use Rattle.integer.proofs.Size.{diff-fits, diff-reads}
 use Rattle.integer.specs.Text.{ascii}
-use Rattle.forms.specs.declared.number.Decimal.{Decimal}
-use Rattle.forms.specs.declared.number.Decimal.the-variants.{Number, Nothing as NoNumber}
-use Rattle.forms.specs.declared.word.Place.{Place}
-use Rattle.forms.specs.declared.word.Place.the-variants.{At, Nowhere}
+use Rattle.lexer.specs.declared.number.Decimal.{Decimal}
+use Rattle.lexer.specs.declared.number.Decimal.the-variants.{Number, Nothing as NoNumber}
+use Rattle.lexer.specs.declared.word.Place.{Place}
+use Rattle.lexer.specs.declared.word.Place.the-variants.{At, Nowhere}
+use Rattle.lexer.specs.Word.{past, ends}
+use Rattle.lexer.specs.Number.{labelled, last}
 use Rattle.forms.specs.declared.Form.{Form}
 use Rattle.forms.specs.declared.Form.the-variants.{Axis, Read, Preset, Nothing}
-use Rattle.forms.specs.Word.{past, ends}
-use Rattle.forms.specs.Number.{labelled, last}
 use Rattle.forms.specs.Form.{read, preset, scale, sequence, axis, form}
 
 -- ---- a line, by its first word

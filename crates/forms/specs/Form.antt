@@ -8,14 +8,14 @@ use lib.Dec.{eqb}
 use lib.IntN.{pos, _-ℤ_}
 use lib.ListN.{drop}
 use Rattle.integer.specs.Text.{ascii}
-use Rattle.forms.specs.declared.number.Decimal.{Decimal}
-use Rattle.forms.specs.declared.number.Decimal.the-variants.{Number, Nothing as NoNumber}
-use Rattle.forms.specs.declared.word.Place.{Place}
-use Rattle.forms.specs.declared.word.Place.the-variants.{At, Nowhere}
+use Rattle.lexer.specs.declared.number.Decimal.{Decimal}
+use Rattle.lexer.specs.declared.number.Decimal.the-variants.{Number, Nothing as NoNumber}
+use Rattle.lexer.specs.declared.word.Place.{Place}
+use Rattle.lexer.specs.declared.word.Place.the-variants.{At, Nowhere}
+use Rattle.lexer.specs.Word.{past, ends}
+use Rattle.lexer.specs.Number.{labelled, last}
 use Rattle.forms.specs.declared.Form.{Form}
 use Rattle.forms.specs.declared.Form.the-variants.{Axis, Read, Preset, Nothing}
-use Rattle.forms.specs.Word.{past, ends}
-use Rattle.forms.specs.Number.{labelled, last}
 
 -- how a form goes on from the position after a word, or else
 abbrev pub from : Place → (ℕ → Form) → Form → Form

@@ -1,3 +1,1 @@
-pub mod Word
-pub mod Number
 pub mod Form

@@ -1,15 +1,12 @@
 // A line of an axis log, read as a form (document 01, "The program axislog"). Positions in a line are counted from 0.
-mod number;
-mod word;
-
 ghost use mathlib.Core.Path.{_≡_};
 ghost use Rattle.forms.specs.Form.{form, read, preset, axis, sequence, scale};
-use crate::number::Decimal;
-use crate::number::labelled;
-use crate::number::last;
-use crate::word::Place;
-use crate::word::ends;
-use crate::word::past;
+use lexer::number::Decimal;
+use lexer::number::labelled;
+use lexer::number::last;
+use lexer::word::Place;
+use lexer::word::ends;
+use lexer::word::past;
 
 // What an axis form says. Without a scale form scaling is off, and both its numbers are 0.
 pub struct Setup {

@@ -8,7 +8,7 @@ use native.Mathlib.Omega.{arith}
 use lib.Dec.{ltb}
 use borrow.Author.Tests.{lt-ltb, le-ltb, ltb-false}
 use Rattle.answers.specs.Answer.{decimalBelow, decimal}
-use Rattle.forms.specs.Number.{digitOf}
+use Rattle.lexer.specs.Number.{digitOf}
 
 -- a test, by its two ways
 pub choose : {A : Type 0} (P : A → Type 0) (t : Bool) {a b : A} → (t ≡ true → P a) → (t ≡ false → P b) → P (cond t a b)

@@ -11,12 +11,12 @@ use lib.ListN.{length, drop, length-append, drop-of-length-le}
 use lib.Seq.{drop-at}
 use borrow.Author.Tests.{ltb-false, eqb-true, eqb-false}
 use Rattle.answers.specs.Answer.{decimal}
-use Rattle.forms.specs.declared.number.Decimal.{Decimal}
-use Rattle.forms.specs.declared.number.Decimal.the-variants.{Number, Nothing as NoNumber}
-use Rattle.forms.specs.declared.word.Place.{Place}
-use Rattle.forms.specs.declared.word.Place.the-variants.{At, Nowhere}
-use Rattle.forms.specs.Word.{past, isAt, ends}
-use Rattle.forms.specs.Number.{digitOf, digits, number, numberAfter, labelled, closed, last}
+use Rattle.lexer.specs.declared.number.Decimal.{Decimal}
+use Rattle.lexer.specs.declared.number.Decimal.the-variants.{Number, Nothing as NoNumber}
+use Rattle.lexer.specs.declared.word.Place.{Place}
+use Rattle.lexer.specs.declared.word.Place.the-variants.{At, Nowhere}
+use Rattle.lexer.specs.Word.{past, isAt, ends}
+use Rattle.lexer.specs.Number.{digitOf, digits, number, numberAfter, labelled, closed, last}
 use Rattle.grammar.proofs.Decimals.{choose, decimal-more, decimal-one, octet-is}
 
 -- ---- fronts of a line

@@ -14,15 +14,15 @@ use lib.Seq.{drop-drop, drop-append-seam}
 use borrow.Author.Tests.{lt-ltb, le-ltb, eq-eqb, ne-eqb, ltb-true, ltb-false, eqb-true}
 use Rattle.integer.specs.Text.{ascii}
 use Rattle.answers.specs.Answer.{decimalBelow, decimal}
-use Rattle.forms.specs.declared.number.Decimal.the-variants.{Number}
-use Rattle.forms.specs.declared.word.Place.the-variants.{At, Nowhere}
+use Rattle.lexer.specs.declared.number.Decimal.the-variants.{Number}
+use Rattle.lexer.specs.declared.word.Place.the-variants.{At, Nowhere}
+use Rattle.lexer.specs.Word.{past, ends}
+use Rattle.lexer.specs.Number.{digitOf, digits, number, labelled, last}
+use Rattle.lexer.proofs.NumberLaws.{digit-low, digit-is}
 use Rattle.forms.specs.declared.Setup.{Setup}
 use Rattle.forms.specs.declared.Form.{Form}
 use Rattle.forms.specs.declared.Form.the-variants.{Axis, Read, Preset, Nothing}
-use Rattle.forms.specs.Word.{past, ends}
-use Rattle.forms.specs.Number.{digitOf, digits, number, labelled, last}
 use Rattle.forms.specs.Form.{read, preset, scale, sequence, axis, form}
-use Rattle.forms.proofs.NumberLaws.{digit-low, digit-is}
 use Rattle.grammar.specs.Grammar.{signed, turning, scaling, written, unscaled, Sized, Writable}
 
 -- ---- words

@@ -10,12 +10,12 @@ use lib.IntN.{pos, negsuc, _-ℤ_, +ℤ-idl}
 use borrow.Author.Tests.{ne-eqb}
 use Rattle.integer.specs.Text.{ascii}
 use Rattle.answers.specs.Answer.{decimal}
-use Rattle.forms.specs.declared.number.Decimal.{Decimal}
-use Rattle.forms.specs.declared.word.Place.{Place}
+use Rattle.lexer.specs.declared.number.Decimal.{Decimal}
+use Rattle.lexer.specs.declared.word.Place.{Place}
+use Rattle.lexer.specs.Word.{past, ends}
+use Rattle.lexer.specs.Number.{labelled, last}
 use Rattle.forms.specs.declared.Form.{Form}
 use Rattle.forms.specs.declared.Form.the-variants.{Preset, Nothing}
-use Rattle.forms.specs.Word.{past, ends}
-use Rattle.forms.specs.Number.{labelled, last}
 use Rattle.forms.specs.Form.{from, with, read, preset, scale, sequence, axis, form}
 use Rattle.grammar.specs.Grammar.{turning, written, Writable}
 use Rattle.grammar.proofs.Decimals.{choose}

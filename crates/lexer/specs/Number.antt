@@ -5,11 +5,11 @@ use mathlib.Core.List.{List, [], _∷_}
 use mathlib.Core.Bool.{cond}
 use lib.Dec.{ltb, eqb}
 use lib.ListN.{drop}
-use Rattle.forms.specs.declared.number.Decimal.{Decimal}
-use Rattle.forms.specs.declared.number.Decimal.the-variants.{Number, Nothing}
-use Rattle.forms.specs.declared.word.Place.{Place}
-use Rattle.forms.specs.declared.word.Place.the-variants.{At, Nowhere}
-use Rattle.forms.specs.Word.{past, ends}
+use Rattle.lexer.specs.declared.number.Decimal.{Decimal}
+use Rattle.lexer.specs.declared.number.Decimal.the-variants.{Number, Nothing}
+use Rattle.lexer.specs.declared.word.Place.{Place}
+use Rattle.lexer.specs.declared.word.Place.the-variants.{At, Nowhere}
+use Rattle.lexer.specs.Word.{past, ends}
 
 -- the value of a digit, and 10 of any other octet
 unfoldable pub digitOf : ℕ → ℕ

@@ -1,9 +1,9 @@
 -- By the laws of NumberLaws, one for each way out.
 -- Assumes nothing.
 use borrow.Author.Needs.{needs}
-use Rattle.forms.proofs.NumberLaws.{numbers}
-use Rattle.forms.proofs.number.labelled.Statement.{statement}
-use Rattle.forms.proofs.number.labelled.Tie as tie
+use Rattle.lexer.proofs.NumberLaws.{numbers}
+use Rattle.lexer.proofs.number.labelled.Statement.{statement}
+use Rattle.lexer.proofs.number.labelled.Tie as tie
 
 pub labelled-spec : {M : Type 1} → statement M
 labelled-spec =

@@ -1,7 +1,7 @@
 // Words in a line, compared octet by octet.
 ghost use mathlib.Core.Path.{_≡_};
 ghost use lib.ListN.{drop};
-ghost use Rattle.forms.specs.Word.{past, ends};
+ghost use Rattle.lexer.specs.Word.{past, ends};
 
 // Where a line goes on after a word.
 pub enum Place {
@@ -11,7 +11,7 @@ pub enum Place {
 }
 
 // The word stands in the line from `at` on.
-pub(crate) fn past(line: &[u8], at: usize, word: &[u8]) -> Place
+pub fn past(line: &[u8], at: usize, word: &[u8]) -> Place
     ensures { λ r. ⌜ r ≡ past (now (word .entry)) at (drop at (now (line .entry))) ⌝ }
 {
     let mut k = at;
@@ -30,7 +30,7 @@ pub(crate) fn past(line: &[u8], at: usize, word: &[u8]) -> Place
 }
 
 // The line ends with the word, which stands at `at`.
-pub(crate) fn ends(line: &[u8], at: usize, word: &[u8]) -> bool
+pub fn ends(line: &[u8], at: usize, word: &[u8]) -> bool
     ensures { λ r. ⌜ r ≡ ends (now (word .entry)) at (now (line .entry)) ⌝ }
 {
     match past(line, at, word) {

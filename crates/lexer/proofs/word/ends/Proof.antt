@@ -1,9 +1,9 @@
 -- By the laws of WordLaws, one for each way out.
 -- Assumes nothing.
 use borrow.Author.Needs.{needs}
-use Rattle.forms.proofs.WordLaws.{words}
-use Rattle.forms.proofs.word.ends.Statement.{statement}
-use Rattle.forms.proofs.word.ends.Tie as tie
+use Rattle.lexer.proofs.WordLaws.{words}
+use Rattle.lexer.proofs.word.ends.Statement.{statement}
+use Rattle.lexer.proofs.word.ends.Tie as tie
 
 pub ends-spec : {M : Type 1} → statement M
 ends-spec =

@@ -8,12 +8,12 @@ use native.Mathlib.Numerals.{add-one}
 use lib.ListN.{length, getD, drop, drop-of-length-le}
 use lib.Seq.{drop-cons}
 use borrow.Author.Tests.{lt-ltb, le-ltb, eq-eqb, ne-eqb}
-use Rattle.forms.specs.declared.number.Decimal.{Decimal}
-use Rattle.forms.specs.declared.number.Decimal.the-variants.{Number, Nothing}
-use Rattle.forms.specs.declared.word.Place.{Place}
-use Rattle.forms.specs.declared.word.Place.the-variants.{At, Nowhere}
-use Rattle.forms.specs.Word.{past, ends}
-use Rattle.forms.specs.Number.{digitOf, digits, number, labelled, last}
+use Rattle.lexer.specs.declared.number.Decimal.{Decimal}
+use Rattle.lexer.specs.declared.number.Decimal.the-variants.{Number, Nothing}
+use Rattle.lexer.specs.declared.word.Place.{Place}
+use Rattle.lexer.specs.declared.word.Place.the-variants.{At, Nowhere}
+use Rattle.lexer.specs.Word.{past, ends}
+use Rattle.lexer.specs.Number.{digitOf, digits, number, labelled, last}
 
 -- ---- the value of a digit
 module _ (b : ℕ) where

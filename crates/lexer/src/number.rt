@@ -2,7 +2,7 @@
 ghost use mathlib.Core.Path.{_≡_};
 ghost use Prim.Native.Nat.{_≤_};
 ghost use lib.ListN.{length, drop};
-ghost use Rattle.forms.specs.Number.{digitOf, digits, number, labelled, last};
+ghost use Rattle.lexer.specs.Number.{digitOf, digits, number, labelled, last};
 use crate::word::Place;
 use crate::word::ends;
 use crate::word::past;
@@ -14,7 +14,7 @@ pub enum Decimal {
 }
 
 // The number after a word.
-pub(crate) fn labelled(line: &[u8], at: usize, word: &[u8]) -> Decimal
+pub fn labelled(line: &[u8], at: usize, word: &[u8]) -> Decimal
     ensures { λ r. ⌜ r ≡ labelled (now (word .entry)) at (now (line .entry)) ⌝ }
 {
     match past(line, at, word) {
@@ -24,7 +24,7 @@ pub(crate) fn labelled(line: &[u8], at: usize, word: &[u8]) -> Decimal
 }
 
 // The number with which the line ends, but for a word behind it.
-pub(crate) fn last(line: &[u8], at: usize, word: &[u8]) -> Decimal
+pub fn last(line: &[u8], at: usize, word: &[u8]) -> Decimal
     ensures { λ r. ⌜ r ≡ last (now (word .entry)) at (now (line .entry)) ⌝ }
 {
     match number(line, at) {

@@ -5,8 +5,8 @@ use mathlib.Core.List.{List, [], _∷_}
 use mathlib.Core.Bool.{Bool, false, cond}
 use lib.Dec.{eqb}
 use lib.ListN.{length, drop}
-use Rattle.forms.specs.declared.word.Place.{Place}
-use Rattle.forms.specs.declared.word.Place.the-variants.{At, Nowhere}
+use Rattle.lexer.specs.declared.word.Place.{Place}
+use Rattle.lexer.specs.declared.word.Place.the-variants.{At, Nowhere}
 
 -- a word, and a text from position p on that begins with it: the position after the word
 unfoldable pub past : List ℕ → ℕ → List ℕ → Place

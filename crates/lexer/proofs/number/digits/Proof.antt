@@ -4,10 +4,10 @@ use borrow.Author.Needs.{needs}
 use mathlib.Core.Path.{_≡_}
 use Prim.Native.Nat.{_≤_, _-_}
 use lib.ListN.{length, drop}
-use Rattle.forms.specs.Number.{digits}
-use Rattle.forms.proofs.NumberLaws.{numbers}
-use Rattle.forms.proofs.number.digits.Statement.{statement}
-use Rattle.forms.proofs.number.digits.Tie as tie
+use Rattle.lexer.specs.Number.{digits}
+use Rattle.lexer.proofs.NumberLaws.{numbers}
+use Rattle.lexer.proofs.number.digits.Statement.{statement}
+use Rattle.lexer.proofs.number.digits.Tie as tie
 
 abbrev Inv-loop : tie.InvT-loop
 Inv-loop line value at n₀ k₀ n k = (k ≤ length line) × (n ≤ 4294967295) × (digits n k (drop k line) ≡ digits value at (drop at line))

@@ -4,10 +4,10 @@ use borrow.Author.Needs.{needs}
 use mathlib.Core.Path.{_≡_}
 use Prim.Native.Nat.{_≤_, _-_}
 use lib.ListN.{length, drop}
-use Rattle.forms.specs.Word.{past}
-use Rattle.forms.proofs.WordLaws.{words}
-use Rattle.forms.proofs.word.past.Statement.{statement}
-use Rattle.forms.proofs.word.past.Tie as tie
+use Rattle.lexer.specs.Word.{past}
+use Rattle.lexer.proofs.WordLaws.{words}
+use Rattle.lexer.proofs.word.past.Statement.{statement}
+use Rattle.lexer.proofs.word.past.Tie as tie
 
 abbrev Inv-loop : tie.InvT-loop
 Inv-loop line at word k₀ i₀ k i = (i ≤ length word) × (past (drop i word) k (drop k line) ≡ past word at (drop at line))
