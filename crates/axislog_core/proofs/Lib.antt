@@ -1,5 +1,3 @@
-pub mod StateLaws
 pub mod RoomLaws
 pub mod LogLaws
 pub mod OutcomeLaws
-pub mod StateKept

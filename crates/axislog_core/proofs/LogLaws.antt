@@ -21,9 +21,9 @@ use Rattle.answers.specs.declared.Answer.{Answer}
 use Rattle.answers.specs.declared.Line.{Line}
 use Rattle.answers.specs.Answer.{text, line}
 use Rattle.answers.proofs.LineLaws.{line-text, line-in, line-cut}
-use Rattle.axislog_core.specs.declared.state.State.{State}
-use Rattle.axislog_core.specs.declared.state.Reply.{Reply}
-use Rattle.axislog_core.specs.State.{empty, reply}
+use Rattle.replies.specs.declared.State.{State}
+use Rattle.replies.specs.declared.Reply.{Reply}
+use Rattle.replies.specs.State.{empty, reply}
 use Rattle.axislog_core.specs.Log.{joined, lines, answersFrom, answers}
 use Rattle.axislog_core.proofs.RoomLaws.{answers-room}
 

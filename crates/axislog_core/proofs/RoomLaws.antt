@@ -15,8 +15,8 @@ use Rattle.answers.specs.declared.Answer.{Answer}
 use Rattle.answers.specs.declared.Answer.the-variants.{Ready, At, Refused}
 use Rattle.answers.specs.Answer.{decimalBelow, decimal, text, shown}
 use Rattle.answers.proofs.DecimalLaws.{decimal-long}
-use Rattle.axislog_core.specs.declared.state.State.{State}
-use Rattle.axislog_core.specs.State.{empty, reply}
+use Rattle.replies.specs.declared.State.{State}
+use Rattle.replies.specs.State.{empty, reply}
 use Rattle.axislog_core.specs.Log.{joined, lines, answersFrom, answers}
 
 -- ---- a line

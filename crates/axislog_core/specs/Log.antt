@@ -10,10 +10,10 @@ use Rattle.encoder.specs.Refusal.{noForm, wrongBuffer, when, _before_, answer}
 use Rattle.forms.specs.Form.{form}
 use Rattle.answers.specs.declared.Answer.the-variants.{Refused as AnswerRefused}
 use Rattle.answers.specs.Answer.{text}
-use Rattle.axislog_core.specs.declared.state.State.{State}
+use Rattle.replies.specs.declared.State.{State}
+use Rattle.replies.specs.State.{empty, reply}
 use Rattle.axislog_core.specs.declared.Outcome.{Outcome}
 use Rattle.axislog_core.specs.declared.Outcome.the-variants.{Written, Refused}
-use Rattle.axislog_core.specs.State.{empty, reply}
 
 -- an octet in front of the first line; where there is none yet, it is a line
 abbrev pub joined : ℕ → List (List ℕ) → List (List ℕ)

@@ -1,6 +1,4 @@
 // What axislog answers to a log (document 01, "The program axislog").
-mod state;
-
 ghost use mathlib.Core.Path.{_≡_};
 ghost use mathlib.Core.List.{_++_};
 ghost use Prim.Native.Nat.{_+_, _≤_};
@@ -8,11 +6,11 @@ ghost use lib.ListN.{length, take};
 ghost use Rattle.integer.specs.Text.{over};
 ghost use Rattle.answers.specs.Answer.{text};
 ghost use Rattle.axislog_core.specs.Log.{answers, outcome, written};
-use crate::state::State;
 use answers::Answer;
 use bytes::scan::find;
 use encoder::refusal;
 use forms::parse;
+use replies::State;
 
 // The octets of the longest log that is answered line by line.
 pub const INPUT: usize = 60_000;

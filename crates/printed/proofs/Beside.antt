@@ -17,10 +17,10 @@ use Rattle.accuracy.specs.Claim.{Event, Reports, Accurate, number}
 use Rattle.accuracy.specs.Run.{State as RunState, library}
 use Rattle.forms.specs.declared.Form.{Form}
 use Rattle.forms.specs.declared.Form.the-variants.{Preset}
-use Rattle.axislog_core.specs.declared.state.Stage.the-variants.{NoAxis, Waiting, Started}
-use Rattle.axislog_core.specs.declared.state.State.{State}
-use Rattle.axislog_core.specs.declared.state.Reply.{Reply}
-use Rattle.axislog_core.specs.State.{shown, position, after}
+use Rattle.replies.specs.declared.Stage.the-variants.{NoAxis, Waiting, Started}
+use Rattle.replies.specs.declared.State.{State}
+use Rattle.replies.specs.declared.Reply.{Reply}
+use Rattle.replies.specs.State.{shown, position, after}
 use Rattle.printed.specs.Printed.{Book, none, waiting, kept, told, booked, Holds, Puts}
 
 -- ---- the library's run from an axis on

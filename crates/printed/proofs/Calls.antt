@@ -19,9 +19,9 @@ use Rattle.accuracy.specs.Calls.{Call, rawReading, presetting}
 use Rattle.accuracy.specs.Ledger.{Device, Deed, force, Ledger, refusalBy, moves, does, noted}
 use Rattle.accuracy.specs.Claim.{Event, Supposed, Puts as Placed, Reports, Accurate, number}
 use Rattle.forms.specs.declared.Form.the-variants.{Read, Preset}
-use Rattle.axislog_core.specs.declared.state.Stage.the-variants.{Started}
-use Rattle.axislog_core.specs.declared.state.State.{State}
-use Rattle.axislog_core.specs.State.{shown, position, after, read, preset}
+use Rattle.replies.specs.declared.Stage.the-variants.{Started}
+use Rattle.replies.specs.declared.State.{State}
+use Rattle.replies.specs.State.{shown, position, after, read, preset}
 use Rattle.printed.specs.Printed.{kept, told, notes, Moves, Holds, Puts}
 use Rattle.printed.proofs.Beside.{Going, now, made, Beside, Done, told-is, shown-holds, shown-puts}
 

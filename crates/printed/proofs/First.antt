@@ -23,9 +23,9 @@ use Rattle.accuracy.specs.Claim.{Accurate, number}
 use Rattle.accuracy.specs.Run.{library}
 use Rattle.accuracy.proofs.Accuracy.{accuracy}
 use Rattle.forms.specs.declared.Form.the-variants.{Read}
-use Rattle.axislog_core.specs.declared.state.Stage.the-variants.{Waiting}
-use Rattle.axislog_core.specs.declared.state.State.{State}
-use Rattle.axislog_core.specs.State.{shown, after}
+use Rattle.replies.specs.declared.Stage.the-variants.{Waiting}
+use Rattle.replies.specs.declared.State.{State}
+use Rattle.replies.specs.State.{shown, after}
 use Rattle.printed.specs.Printed.{none, waiting, opens, Holds}
 use Rattle.printed.proofs.Beside.{run, Going, now, made, Beside, Done, shown-holds}
 

@@ -12,9 +12,9 @@ use Rattle.forms.specs.declared.Setup.{Setup}
 use Rattle.forms.specs.declared.Form.{Form}
 use Rattle.forms.specs.declared.Form.the-variants.{Axis as AxisForm, Read, Preset, Nothing}
 use Rattle.forms.specs.Form.{form}
-use Rattle.axislog_core.specs.declared.state.Stage.{Stage}
-use Rattle.axislog_core.specs.declared.state.State.{State}
-use Rattle.axislog_core.specs.State.{plateOf, parametersOf, unstarted, empty, refused, after, ready, setUp, readAt, read, presetAt, preset, reply}
+use Rattle.replies.specs.declared.Stage.{Stage}
+use Rattle.replies.specs.declared.State.{State}
+use Rattle.replies.specs.State.{plateOf, parametersOf, unstarted, empty, refused, after, ready, setUp, readAt, read, presetAt, preset, reply}
 use Rattle.printed.specs.Printed.{Heard, Book, none, waiting, kept, sets, booked, Moves, Holds, Printed, Claim}
 use Rattle.printed.proofs.Beside.{Beside, Done}
 use Rattle.printed.proofs.Calls.{read-done, preset-done}

@@ -23,8 +23,8 @@ use Rattle.forms.specs.declared.Form.the-variants.{Axis, Read, Preset, Nothing}
 use Rattle.forms.specs.Form.{form}
 use Rattle.answers.specs.declared.Answer.{Answer}
 use Rattle.answers.specs.declared.Answer.the-variants.{Ready, At, Refused}
-use Rattle.axislog_core.specs.declared.state.State.{State}
-use Rattle.axislog_core.specs.State.{plateOf, parametersOf, empty, reply}
+use Rattle.replies.specs.declared.State.{State}
+use Rattle.replies.specs.State.{plateOf, parametersOf, empty, reply}
 
 -- a line of the log, and the true steps since the last accepted raw number, which axislog is not told
 pub record Heard : Type 0 where

@@ -1,12 +1,12 @@
 -- By the laws of StateLaws, one for each way out.
 -- Assumes nothing.
 use borrow.Author.Needs.{needs}
-use Rattle.axislog_core.proofs.StateLaws.{replies}
-use Rattle.axislog_core.proofs.state.State.preset.Statement.{statement}
-use Rattle.axislog_core.proofs.state.State.preset.Tie as tie
+use Rattle.replies.proofs.StateLaws.{replies}
+use Rattle.replies.proofs.State.reply.Statement.{statement}
+use Rattle.replies.proofs.State.reply.Tie as tie
 
-pub preset-spec : {M : Type 1} → statement M
-preset-spec =
+pub reply-spec : {M : Type 1} → statement M
+reply-spec =
     tie.close
     (tie.spec
     (λ c. search (needs, replies))
@@ -15,7 +15,9 @@ preset-spec =
     (λ c κs. search (needs, replies))
     (λ c. search (needs, replies))
     (λ c κs. search (needs, replies))
+    (λ c. search (needs, replies))
     (λ c κs. search (needs, replies))
+    (λ c. search (needs, replies))
     (λ c. search (needs, replies))
     (λ c. search (needs, replies))
     (λ c. search (needs, replies)))

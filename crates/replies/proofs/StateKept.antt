@@ -21,11 +21,11 @@ use Rattle.forms.specs.declared.Form.{Form}
 use Rattle.forms.specs.declared.Form.the-variants.{Axis as AxisForm, Read, Preset, Nothing}
 use Rattle.forms.specs.Form.{form}
 use Rattle.answers.specs.declared.Answer.the-variants.{At}
-use Rattle.axislog_core.specs.declared.state.Stage.{Stage}
-use Rattle.axislog_core.specs.declared.state.Stage.the-variants.{NoAxis, Waiting, Started}
-use Rattle.axislog_core.specs.declared.state.State.{State}
-use Rattle.axislog_core.specs.declared.state.Reply.{Reply}
-use Rattle.axislog_core.specs.State.{plateOf, parametersOf, unstarted, empty, shown, refused, taken, after, ready, setUp, readAt, read, presetAt, preset, reply}
+use Rattle.replies.specs.declared.Stage.{Stage}
+use Rattle.replies.specs.declared.Stage.the-variants.{NoAxis, Waiting, Started}
+use Rattle.replies.specs.declared.State.{State}
+use Rattle.replies.specs.declared.Reply.{Reply}
+use Rattle.replies.specs.State.{plateOf, parametersOf, unstarted, empty, shown, refused, taken, after, ready, setUp, readAt, read, presetAt, preset, reply}
 
 -- a started axis is within its limits
 abbrev pub Kept : State → Type 0

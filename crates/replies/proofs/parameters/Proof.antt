@@ -1,9 +1,9 @@
 -- By the laws of StateLaws, one for each way out.
 -- Assumes nothing.
 use borrow.Author.Needs.{needs}
-use Rattle.axislog_core.proofs.StateLaws.{replies}
-use Rattle.axislog_core.proofs.state.parameters.Statement.{statement}
-use Rattle.axislog_core.proofs.state.parameters.Tie as tie
+use Rattle.replies.proofs.StateLaws.{replies}
+use Rattle.replies.proofs.parameters.Statement.{statement}
+use Rattle.replies.proofs.parameters.Tie as tie
 
 pub parameters-spec : {M : Type 1} → statement M
 parameters-spec =

@@ -1,9 +1,9 @@
 -- By the laws of StateLaws, one for each way out.
 -- Assumes nothing.
 use borrow.Author.Needs.{needs}
-use Rattle.axislog_core.proofs.StateLaws.{replies}
-use Rattle.axislog_core.proofs.state.State.unstarted.Statement.{statement}
-use Rattle.axislog_core.proofs.state.State.unstarted.Tie as tie
+use Rattle.replies.proofs.StateLaws.{replies}
+use Rattle.replies.proofs.State.unstarted.Statement.{statement}
+use Rattle.replies.proofs.State.unstarted.Tie as tie
 
 pub unstarted-spec : {M : Type 1} → statement M
 unstarted-spec =

@@ -30,11 +30,11 @@ use Rattle.forms.specs.declared.Form.{Form}
 use Rattle.forms.specs.declared.Form.the-variants.{Axis as AxisForm, Read, Preset, Nothing}
 use Rattle.answers.specs.declared.Answer.{Answer}
 use Rattle.answers.specs.declared.Answer.the-variants.{Ready, At, Refused}
-use Rattle.axislog_core.specs.declared.state.Stage.{Stage}
-use Rattle.axislog_core.specs.declared.state.Stage.the-variants.{NoAxis, Waiting, Started}
-use Rattle.axislog_core.specs.declared.state.State.{State}
-use Rattle.axislog_core.specs.declared.state.Reply.{Reply}
-use Rattle.axislog_core.specs.State.{plateOf, parametersOf, unstarted, shown, refused, taken, after, ready, setUp, readAt, read, presetAt, preset, reply}
+use Rattle.replies.specs.declared.Stage.{Stage}
+use Rattle.replies.specs.declared.Stage.the-variants.{NoAxis, Waiting, Started}
+use Rattle.replies.specs.declared.State.{State}
+use Rattle.replies.specs.declared.Reply.{Reply}
+use Rattle.replies.specs.State.{plateOf, parametersOf, unstarted, shown, refused, taken, after, ready, setUp, readAt, read, presetAt, preset, reply}
 
 -- ---- plate and parameters
 octet-is : (b c : Bool) → boolByte b * 8 + 2 + boolByte c ≡ at b 3 + at true 1 + at c 0

@@ -1,6 +1,6 @@
-// The axis of a log, and what a form does to it.
+// The axis of a log, and what a form does to it (document 01, "The program axislog").
 ghost use mathlib.Core.Path.{_≡_};
-ghost use Rattle.axislog_core.specs.State.{empty, unstarted, plateOf, parametersOf, shown, refused, after, setUp, read, preset, reply};
+ghost use Rattle.replies.specs.State.{empty, unstarted, plateOf, parametersOf, shown, refused, after, setUp, read, preset, reply};
 use answers::Answer;
 use axis::Axis;
 use axis::Next;
@@ -36,7 +36,7 @@ pub struct Reply {
 
 impl State {
     // Before the first line.
-    pub(crate) fn empty() -> State
+    pub fn empty() -> State
         ensures { λ r. ⌜ r ≡ empty ⌝ }
     {
         State::unstarted(
@@ -53,7 +53,7 @@ impl State {
     }
 
     // What a form does to the axis, and its answer.
-    pub(crate) fn reply(self, form: Form) -> Reply
+    pub fn reply(self, form: Form) -> Reply
         ensures { λ r. ⌜ r ≡ reply self form ⌝ }
     {
         match form {

@@ -1,9 +1,9 @@
 -- By the laws of StateLaws, one for each way out.
 -- Assumes nothing.
 use borrow.Author.Needs.{needs}
-use Rattle.axislog_core.proofs.StateLaws.{replies}
-use Rattle.axislog_core.proofs.state.State.after.Statement.{statement}
-use Rattle.axislog_core.proofs.state.State.after.Tie as tie
+use Rattle.replies.proofs.StateLaws.{replies}
+use Rattle.replies.proofs.State.after.Statement.{statement}
+use Rattle.replies.proofs.State.after.Tie as tie
 
 pub after-spec : {M : Type 1} → statement M
 after-spec =

@@ -23,10 +23,10 @@ use Rattle.forms.specs.declared.Form.{Form}
 use Rattle.forms.specs.declared.Form.the-variants.{Axis as AxisForm, Read, Preset, Nothing}
 use Rattle.answers.specs.declared.Answer.{Answer}
 use Rattle.answers.specs.declared.Answer.the-variants.{Ready, At, Refused}
-use Rattle.axislog_core.specs.declared.state.Stage.{Stage}
-use Rattle.axislog_core.specs.declared.state.Stage.the-variants.{NoAxis, Waiting, Started}
-use Rattle.axislog_core.specs.declared.state.State.{State}
-use Rattle.axislog_core.specs.declared.state.Reply.{Reply}
+use Rattle.replies.specs.declared.Stage.{Stage}
+use Rattle.replies.specs.declared.Stage.the-variants.{NoAxis, Waiting, Started}
+use Rattle.replies.specs.declared.State.{State}
+use Rattle.replies.specs.declared.Reply.{Reply}
 
 -- the plate's other fields are zero
 abbrev pub plateOf : Setup → Nameplate

@@ -1,9 +1,9 @@
 -- By the laws of StateLaws, one for each way out.
 -- Assumes nothing.
 use borrow.Author.Needs.{needs}
-use Rattle.axislog_core.proofs.StateLaws.{replies}
-use Rattle.axislog_core.proofs.state.State.set_up.Statement.{statement}
-use Rattle.axislog_core.proofs.state.State.set_up.Tie as tie
+use Rattle.replies.proofs.StateLaws.{replies}
+use Rattle.replies.proofs.State.set_up.Statement.{statement}
+use Rattle.replies.proofs.State.set_up.Tie as tie
 
 pub set-up-spec : {M : Type 1} → statement M
 set-up-spec =

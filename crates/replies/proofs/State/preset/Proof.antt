@@ -1,18 +1,17 @@
 -- By the laws of StateLaws, one for each way out.
 -- Assumes nothing.
 use borrow.Author.Needs.{needs}
-use Rattle.axislog_core.proofs.StateLaws.{replies}
-use Rattle.axislog_core.proofs.state.State.read.Statement.{statement}
-use Rattle.axislog_core.proofs.state.State.read.Tie as tie
+use Rattle.replies.proofs.StateLaws.{replies}
+use Rattle.replies.proofs.State.preset.Statement.{statement}
+use Rattle.replies.proofs.State.preset.Tie as tie
 
-pub read-spec : {M : Type 1} → statement M
-read-spec =
+pub preset-spec : {M : Type 1} → statement M
+preset-spec =
     tie.close
     (tie.spec
     (λ c. search (needs, replies))
     (λ c κs. search (needs, replies))
     (λ c. search (needs, replies))
-    (λ c κs. search (needs, replies))
     (λ c κs. search (needs, replies))
     (λ c. search (needs, replies))
     (λ c κs. search (needs, replies))
