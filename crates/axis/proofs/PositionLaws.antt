@@ -9,7 +9,7 @@ use Rattle.integer.proofs.Size.{reads}
 use Rattle.encoder.specs.declared.quantity.Units.{Units}
 use Rattle.encoder.specs.declared.effect.InForce.{InForce}
 use Rattle.encoder.specs.declared.effect.Effect.{Effect}
-use Rattle.encoder.specs.declared.effect.Effect.the-variants.{Taken, Refused as NotInForce}
+use Rattle.encoder.specs.declared.effect.Effect.the-variants.{Refused as NotInForce}
 use Rattle.travel.specs.declared.Reported.{Reported}
 use Rattle.travel.specs.declared.Reported.the-variants.{At, Refused}
 use Rattle.travel.specs.Travel.{reportedAt}
@@ -20,17 +20,13 @@ use Rattle.encoder.proofs.RefusalLaws.{refused-is}
 use Rattle.axis.proofs.AxisLaws.{Limits, limits-of, limits-none, ready-of, outside-of, stands-none, offset-fits}
 
 -- ---- the answer is that of the travel, whose limits are among those of the axis
-module _ (a : Axis) (e : Effect) where
-  pub reported-on : (f : InForce) (v : Reported) → e ≡ Taken f → e ≡ inForceOn a → v ≡ reportedAt f (toZ w64 (ofZ w64 (a .offset))) (a .travel)
-      → v ≡ reported a
-  unfolding reported positionOf unshiftedOf
-  reported-on f v h e-is v-is =
-      let r = ready-of a e f h e-is in
-      v-is ∙ rw (reads (offset-fits a f r), at-is f (a .travel) (r .travel) (a .offset), stands-none a f r, r .is)
+pub ready-reported : (a : Axis) (f : InForce) (v : Reported) → Ready a f → v ≡ reportedAt f (toZ w64 (ofZ w64 (a .offset))) (a .travel) → v ≡ reported a
+unfolding reported positionOf unshiftedOf
+ready-reported a f v r v-is = v-is ∙ rw (reads (offset-fits a f r), at-is f (a .travel) (r .travel) (a .offset), stands-none a f r, r .is)
 
-  pub reported-no : (n : ℕ) → e ≡ NotInForce n → e ≡ inForceOn a → Refused n ≡ reported a
-  unfolding reported
-  reported-no n h e-is = let i = outside-of a e n h e-is in rw (i .0) (sym (refused-is Refused _ n (i .1)))
+pub reported-no : (a : Axis) (e : Effect) (n : ℕ) → e ≡ NotInForce n → e ≡ inForceOn a → Refused n ≡ reported a
+unfolding reported
+reported-no a e n h e-is = let i = outside-of a e n h e-is in rw (i .0) (sym (refused-is Refused _ n (i .1)))
 
 -- which is a position on every axis within its limits
 pub reported-is : (a : Axis) → Limits a → reported a ≡ At (record { 0 = positionOf a }) (record { 0 = unshiftedOf a })
@@ -50,4 +46,4 @@ module _ (a : Axis) (f : InForce) (r : Ready a f) (e : Reported) where
       let z : _≡_ {A = ℕ} 0 1 = cc in
       absurd (omega arith)
 
-pub ruleset positions = (reported-on, reported-no)
+pub ruleset positions = (ready-of, ready-reported, reported-no)

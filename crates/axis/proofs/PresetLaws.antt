@@ -3,7 +3,6 @@
 use mathlib.Core.Path.{_≡_, sym, _∙_}
 use mathlib.Core.Bool.{Bool, true, false}
 use Prim.Native.Nat.{ℕ, _<_}
-use native.Mathlib.Omega.{arith}
 use lib.IntN.{ℤ, pos, natAbs, _+ℤ_, _-ℤ_}
 use borrow.Author.Tests.{lt-ltb}
 use mir.Syntax.{w64}
@@ -14,18 +13,18 @@ use Rattle.ring.proofs.RingLaws.{on-ring}
 use Rattle.encoder.specs.declared.quantity.Units.{Units}
 use Rattle.encoder.specs.declared.effect.InForce.{InForce}
 use Rattle.encoder.specs.declared.effect.Effect.{Effect}
-use Rattle.encoder.specs.declared.effect.Effect.the-variants.{Taken, Refused}
+use Rattle.encoder.specs.declared.effect.Effect.the-variants.{Refused}
 use Rattle.travel.specs.declared.Reported.{Reported}
 use Rattle.travel.specs.declared.Reported.the-variants.{At, Refused as Outside}
 use Rattle.travel.specs.Travel.{reportedAt}
-use Rattle.travel.proofs.TravelLaws.{reported-is as at-is}
 use Rattle.shift.specs.Shift.{valueRefusal, offsetBy}
 use Rattle.axis.specs.declared.Axis.{Axis}
 use Rattle.axis.specs.declared.Next.{Next}
 use Rattle.axis.specs.Axis.{rulesOn, inForceOn, Ready, unshiftedOf, positionOf}
 use Rattle.axis.specs.Reading.{accepted, refused}
 use Rattle.axis.specs.Preset.{presetRefusal, asked, shifted, presetted, preset, holding, store}
-use Rattle.axis.proofs.AxisLaws.{Limits, limits-none, ready-of, stands-none, offset-fits}
+use Rattle.axis.proofs.AxisLaws.{Limits, limits-none, ready-of, stands-none}
+use Rattle.axis.proofs.PositionLaws.{ready-reported, position-is, position-always}
 use Rattle.axis.proofs.ReadingLaws.{next-refused, outside-first}
 
 -- ---- the refusals
@@ -64,25 +63,16 @@ module _ (a : Axis) (f : InForce) (r : Ready a f) (v : ℤ) (fits : SFits w64 v)
     store-to z w = w ∙ rw (number-is, z, reads fits)
 
     module _ (q : Reported) (q-is : q ≡ reportedAt f (toZ w64 (ofZ w64 (a .offset))) (a .travel)) where
-      here : q ≡ At (record { 0 = positionOf a }) (record { 0 = unshiftedOf a })
-      unfolding positionOf unshiftedOf
-      here = q-is ∙ rw (reads (offset-fits a f r), at-is f (a .travel) (r .travel) (a .offset), r .is)
-
       pub preset-to : (relative : Bool) (p u : Units) (o : ℤ) → n ≡ 0 → q ≡ At p u → o ≡ offsetBy (f .span .0) (p .0) (u .0) (toZ w64 (ofZ w64 v)) relative
           → x ≡ accepted (shifted a o (toZ w64 (ofZ w64 v))) → x ≡ preset a v relative
       unfolding preset presetted
       preset-to relative p u o z h o-is w =
-          let e : At p u ≡ At (record { 0 = positionOf a }) (record { 0 = unshiftedOf a }) = sym h ∙ here in
-          let p-is : p .0 ≡ positionOf a = cc in
-          let u-is : u .0 ≡ unshiftedOf a = cc in
-          let i : o ≡ pos (asked a v relative) -ℤ pos (unshiftedOf a) = o-is ∙ rw (p-is, u-is, reads fits) (offset-is relative) in
+          let k = position-is a f r q p u h (ready-reported a f q r q-is) in
+          let i : o ≡ pos (asked a v relative) -ℤ pos (unshiftedOf a) = o-is ∙ rw (k .0, k .1, reads fits) (offset-is relative) in
           w ∙ rw (number-is, z, reads fits, i)
 
       pub preset-never : (relative : Bool) (k : ℕ) → q ≡ Outside k → x ≡ preset a v relative
-      preset-never relative k h =
-          let e : Outside k ≡ At (record { 0 = positionOf a }) (record { 0 = unshiftedOf a }) = sym h ∙ here in
-          let z : _≡_ {A = ℕ} 0 1 = cc in
-          absurd (omega arith)
+      preset-never relative k h = absurd (position-always a f r q k h (ready-reported a f q r q-is))
 
 -- ---- a preset that nothing refuses
 pub preset-taken : (a : Axis) → Limits a → (v : ℤ) (relative : Bool) → rulesOn a .enabled ≡ true → natAbs v < rulesOn a .span .0

@@ -9,7 +9,6 @@ use mir.Syntax.{w64, w32}
 use mir.Val.{Fits, SFits, toZ, ofZ}
 use Rattle.integer.proofs.Size.{reads, fits-abs, diff-fits, diff-reads}
 use Rattle.integer.proofs.Modulus.{modulo-lt}
-use Rattle.integer.specs.Modulus.{_modulo_}
 use Rattle.ring.specs.Ring.{onRing, inRange}
 use Rattle.ring.proofs.RingLaws.{on-ring, on-none}
 use Rattle.encoder.specs.declared.effect.InForce.{InForce}

@@ -2,7 +2,7 @@
 -- Assumes nothing.
 use mathlib.Core.Path.{_≡_, refl, sym, _∙_}
 use mathlib.Core.Bool.{Bool, true, false, cond}
-use Prim.Native.Nat.{ℕ, _+_, _-_, _*_, _%_, _^_, _≤_, _<_}
+use Prim.Native.Nat.{ℕ, zero, suc, _+_, _-_, _*_, _%_, _^_, _≤_, _<_}
 use native.Mathlib.Omega.{arith}
 use native.Mathlib.Nat as N
 use lib.Dec.{ltb, leb}
@@ -11,9 +11,10 @@ use borrow.Author.Tests.{lt-ltb, le-ltb, le-leb, lt-leb, leb-false, eq-eqb, ne-e
 use mir.Syntax.{w64}
 use mir.Val.{SFits, toZ, ofZ}
 use mir.ValLaws.{toZ-pos}
+use Rattle.integer.specs.Modulus.{_modulo_}
 use Rattle.integer.proofs.Signed.{signed, neg-is, diff-is}
 use Rattle.integer.proofs.Size.{abs-is, fits-abs, diff-fits, diff-reads}
-use Rattle.integer.proofs.Modulus.{modulo-lt, modulo-is}
+use Rattle.integer.proofs.Modulus.{modulo-lt, modulo-is, modulo-alike}
 use Rattle.encoder.specs.declared.effect.InForce.{InForce}
 use Rattle.encoder.specs.InForce.{Sound}
 use Rattle.encoder.specs.Refusal.{when, _before_}
@@ -33,16 +34,35 @@ module _ (f : InForce) (raw : ℕ) where
   unfolding oriented
   oriented-off e = rw e
 
--- ---- 3. the difference: the numbers' own, or one range short of it
-module _ (f : InForce) (last raw from to : ℕ) (from-is : from ≡ oriented f last) (from-lt : from < f .capacity .0)
-    (to-is : to ≡ oriented f raw) (to-lt : to < f .capacity .0) where
-  pub difference-ahead : from ≤ to → to - from ≡ difference f last raw
-  unfolding difference
-  difference-ahead h = rw (← from-is, ← to-is) (sym (modulo-is _ 0 0 (omega arith) (omega (arith, diff-is (pos to) (pos from)))))
+-- with its raw number it is 0 or C
+turned : (f : InForce) (raw : ℕ) → f .reversed ≡ true → raw < f .capacity .0 → (k : ℕ) × (oriented f raw + raw ≡ k * f .capacity .0)
+turned f zero e h = (0, omega (arith, oriented-none f 0 e refl, N.zero-mul (f .capacity .0)))
+turned f (suc n) e h = (1, omega (arith, oriented-on f (suc n) e (λ z. omega arith) h, N.one-mul (f .capacity .0)))
 
-  pub difference-round : to < from → to + (f .capacity .0 - from) ≡ difference f last raw
+-- ---- 3. the difference: the numbers' own, or one range short of it
+module _ (c from to : ℕ) (from-lt : from < c) (to-lt : to < c) where
+  pub apart-ahead : from ≤ to → to - from ≡ (pos to -ℤ pos from) modulo c
+  apart-ahead h = sym (modulo-is _ 0 0 (omega arith) (omega (arith, diff-is (pos to) (pos from))))
+
+  pub apart-round : to < from → to + (c - from) ≡ (pos to -ℤ pos from) modulo c
+  apart-round h = sym (modulo-is _ 1 0 (omega arith) (omega (arith, diff-is (pos to) (pos from))))
+
+module _ (f : InForce) (last raw n : ℕ) where
+  pub difference-off : f .reversed ≡ false → n ≡ (pos raw -ℤ pos last) modulo f .capacity .0 → n ≡ difference f last raw
   unfolding difference
-  difference-round h = rw (← from-is, ← to-is) (sym (modulo-is _ 1 0 (omega arith) (omega (arith, diff-is (pos to) (pos from)))))
+  difference-off e n-is = n-is ∙ rw (← oriented-off f raw e, ← oriented-off f last e)
+
+  pub difference-on : f .reversed ≡ true → last < f .capacity .0 → raw < f .capacity .0 → n ≡ (pos last -ℤ pos raw) modulo f .capacity .0
+      → n ≡ difference f last raw
+  unfolding difference
+  difference-on e l r n-is =
+      let x = pos last -ℤ pos raw in
+      let a = oriented f raw in
+      let b = oriented f last in
+      let y = pos a -ℤ pos b in
+      let i = turned f raw e r in
+      let j = turned f last e l in
+      n-is ∙ modulo-alike x y (i .0) (j .0) (omega arith) (omega (signed, diff-is (pos last) (pos raw), diff-is (pos a) (pos b), i .1, j .1))
 
 pub difference-lt : (f : InForce) (last raw : ℕ) → Sound f → difference f last raw < f .capacity .0
 unfolding difference
@@ -118,8 +138,10 @@ pub ruleset sensors = (
   oriented-none,
   oriented-on,
   oriented-off,
-  difference-ahead,
-  difference-round,
+  apart-ahead,
+  apart-round,
+  difference-off,
+  difference-on,
   back-fits,
   move-ahead,
   move-back,

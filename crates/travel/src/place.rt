@@ -1,4 +1,4 @@
-// The place, kept modulo R x L, and the position that it stands for (document 01, "The axis", rules 2 to 5 and 7).
+// The place, kept modulo R x L, and the position that it stands for (document 01, "The axis", rules 3 to 5 and 7).
 ghost use mathlib.Core.Path.{_≡_};
 ghost use Prim.Native.Nat.{_<_};
 ghost use lib.ListN.{length};

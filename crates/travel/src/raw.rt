@@ -1,6 +1,8 @@
 // Raw numbers of the sensor, which begin again at 0 after C (document 01, "The axis", rules 1 and 3).
 ghost use mathlib.Core.Path.{_≡_};
 ghost use Prim.Native.Nat.{_<_};
+ghost use lib.IntN.{pos, _-ℤ_};
+ghost use Rattle.integer.specs.Modulus.{_modulo_};
 ghost use Rattle.encoder.specs.InForce.{Sound};
 ghost use Rattle.travel.specs.Travel.{oriented, difference, moveOf, moveRefusal};
 ghost use Rattle.travel.specs.Batch.{refusalIn};
@@ -14,7 +16,7 @@ pub(crate) fn oriented(rules: InForce, raw: Steps) -> Steps
     ensures { λ r. ⌜ (r .0 ≡ oriented rules (raw .0)) × (r .0 < rules .capacity .0) ⌝ }
 {
     if rules.reversed {
-        // C - raw modulo C, without a division: two are made for each reading
+        // C - raw modulo C, without a division
         if raw.0 == 0 {
             return raw;
         }
@@ -23,17 +25,26 @@ pub(crate) fn oriented(rules: InForce, raw: Steps) -> Steps
     raw
 }
 
-// The difference of two readings modulo C.
+// The difference of two readings modulo C, in the direction in force: counter-clockwise it is that of the two exchanged.
 fn difference(rules: InForce, last: Steps, raw: Steps) -> Steps
     requires { ⌜ Sound rules × (last .0 < rules .capacity .0) × (raw .0 < rules .capacity .0) ⌝ }
     ensures { λ r. ⌜ (r .0 ≡ difference rules (last .0) (raw .0)) × (r .0 < rules .capacity .0) ⌝ }
 {
-    let from = oriented(rules, last);
-    let to = oriented(rules, raw);
+    if rules.reversed {
+        return apart(rules.capacity, raw, last);
+    }
+    apart(rules.capacity, last, raw)
+}
+
+// How far one number of the sensor lies ahead of another.
+fn apart(capacity: Steps, from: Steps, to: Steps) -> Steps
+    requires { ⌜ (from .0 < capacity .0) × (to .0 < capacity .0) ⌝ }
+    ensures { λ r. ⌜ (r .0 ≡ (pos (to .0) -ℤ pos (from .0)) modulo capacity .0) × (r .0 < capacity .0) ⌝ }
+{
     if from.0 <= to.0 {
         return Steps(to.0 - from.0);
     }
-    Steps(to.0 + (rules.capacity.0 - from.0))
+    Steps(to.0 + (capacity.0 - from.0))
 }
 
 // The same, taken the shorter way: ahead above 0, back below.
