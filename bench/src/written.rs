@@ -104,7 +104,7 @@ fn plain_on(f: &Force, first: u32, raws: &[u32], positions: &mut [u32]) -> u8 {
     0
 }
 
-/// Tuned: no remainder where a comparison does, no branch on the sign of a move, and the direction told apart outside of the loops.
+/// Tuned: no remainder where a comparison does, and the direction told apart outside of the loops.
 pub fn tuned(plate: Plate, sent: Parameters, first: u32, raws: &[u32], positions: &mut [u32]) -> u8 {
     match begin(plate, sent, first, raws, positions) {
         Err(number) => number,

@@ -2,7 +2,6 @@
 -- Assumes nothing.
 use mathlib.Core.Path.{_≡_, sym, ap, _∙_}
 use Prim.Native.Nat.{ℕ, _<_}
-use native.Mathlib.Omega.{arith}
 use Rattle.encoder.specs.declared.nameplate.Nameplate.{Nameplate}
 use Rattle.encoder.specs.declared.parameters.Parameters.{Parameters}
 use Rattle.encoder.specs.declared.effect.InForce.{InForce}
@@ -15,7 +14,7 @@ use Rattle.sensor.specs.declared.Sensed.{Sensed}
 use Rattle.sensor.specs.Reading.{rawOf, stepRefusal, numbered, sensed}
 use Rattle.encoder.specs.Nameplate.{capacityOf}
 use Rattle.encoder.specs.Parameters.{fieldsOf}
-use Rattle.encoder.specs.InForce.{rulesOf, inForce, Sound}
+use Rattle.encoder.specs.InForce.{rulesOf, inForce}
 use Rattle.encoder.proofs.RefusalLaws.{refused-is, before-first}
 use Rattle.sensor.proofs.ReadingLaws.{reading-taken, reading-refused, reading-lt}
 use Rattle.encoder.proofs.ForceLaws.{in-force-taken, in-force-refused}
