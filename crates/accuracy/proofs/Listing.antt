@@ -8,20 +8,23 @@ use Rattle.encoder.specs.Parameters.{fieldsRefusal, refusalOn}
 use Rattle.sensor.specs.Reading.{stepRefusal}
 use Rattle.travel.specs.declared.Reported.{Reported}
 use Rattle.axis.specs.Reading.{startRefusal}
-use Rattle.accuracy.specs.Calls.{Call}
-use Rattle.accuracy.specs.Ledger.{Ledger, opened, deed, noted}
+use Rattle.accuracy.specs.Calls.{First, firstReading, Call}
+use Rattle.accuracy.specs.Ledger.{Ledger, startBy, opened, deed, noted}
 use Rattle.accuracy.specs.Claim.{Program, Event, Supposed, number, Reports, Lent, Puts, readSingly, Accurate, Claim}
 use Rattle.accuracy.specs.Worked.{listing}
 
 abbrev pub first : Ledger
 first = opened listing 28
 
-pub started-there : startRefusal (listing .plate) (listing .parameters) 8 2 ≡ 0
+abbrev pub there : First
+there = firstReading 8 2
+
+pub started-there : startBy listing there ≡ 0
 unfolding startRefusal stepRefusal refusalOn fieldsRefusal
 started-there = refl
 
 abbrev pub begun : (p : Program) → p .State
-begun p = p .start (listing .plate) (listing .parameters) 8 2
+begun p = p .start (listing .plate) (listing .parameters) there
 
 abbrev pub then : Program → Call → Reported
 then p c = p .position (p .call (begun p) c)
@@ -41,18 +44,18 @@ later p c m = noted first (deed listing first c) (steady m) (number (then p c))
 module _ (p : Program) (claim : Claim p) (c : Call) (m : ℤ) (h : Supposed listing 28 (deed listing first c .numbers) (steady m)) where
   pub after : Reports listing (later p c m) (then p c)
   unfolding Accurate
-  after = claim listing 8 2 started-there (event c m ∷ []) .1 h .2
+  after = claim listing there started-there (event c m ∷ []) .1 h .2
 
   pub puts : Puts listing (deed listing first c .preset) (number (p .position (readSingly p (begun p) (deed listing first c .numbers)))) (number (then p c))
   unfolding Accurate
-  puts = claim listing 8 2 started-there (event c m ∷ []) .1 h .0
+  puts = claim listing there started-there (event c m ∷ []) .1 h .0
 
   pub lent : Lent listing first c (steady m) (later p c m) (p .lent (begun p) c)
   unfolding Accurate
-  lent = claim listing 8 2 started-there (event c m ∷ []) .1 h .1
+  lent = claim listing there started-there (event c m ∷ []) .1 h .1
 
   pub another : (e : Call) (n : ℤ) → Supposed listing (later p c m .last) (deed listing (later p c m) e .numbers) (steady n)
       → Lent listing (later p c m) e (steady n) (noted (later p c m) (deed listing (later p c m) e) (steady n) (number (twice p c e))) (p .lent (p .call (begun p) c) e)
       × Reports listing (noted (later p c m) (deed listing (later p c m) e) (steady n) (number (twice p c e))) (twice p c e)
   unfolding Accurate
-  another e n k = let t = claim listing 8 2 started-there (event c m ∷ event e n ∷ []) .1 h .2 .1 k in (t .1, t .2)
+  another e n k = let t = claim listing there started-there (event c m ∷ event e n ∷ []) .1 h .2 .1 k in (t .1, t .2)

@@ -34,7 +34,7 @@ use Rattle.accuracy.specs.Worthless.{at, always0, turnsAway, claimsHalfR
 use Rattle.accuracy.specs.Worked.{listing}
 use Rattle.accuracy.proofs.Distance.{is-self, off-is}
 use Rattle.accuracy.proofs.OneUnit.{told}
-use Rattle.accuracy.proofs.Listing.{first, started-there, begun, then, twice, steady, later, after, puts, lent, another}
+use Rattle.accuracy.proofs.Listing.{first, there, started-there, begun, then, twice, steady, later, after, puts, lent, another}
 
 -- ---- the calls: raw number 4, 6 steps on; two of a batch, 6 steps on each; presets to 0 and by 1; cycles that ask for a preset, of a raw number that
 -- is faulty, or of the last one
@@ -77,7 +77,7 @@ read-pass = (record { small = omega arith; times = pos 1; same = refl }, (record
 -- ---- always position 0: at once
 pub no-always0 : Claim always0 → ⊥
 unfolding Accurate rulesOf oriented
-no-always0 h = let t = told listing first 0 (h listing 8 2 started-there []) in omega arith
+no-always0 h = let t = told listing first 0 (h listing there started-there []) in omega arith
 
 -- ---- what no program may report after raw number 4: exact is 10.2, which on the ring of 7 is 3.2
 too-far : (p : Program) (x u : ℕ) → Claim p → then p (rawReading 4) ≡ at x u → x < 3 → ⊥

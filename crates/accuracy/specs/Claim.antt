@@ -27,19 +27,17 @@ use Rattle.integer.specs.Octets.{part, bigEndian}
 use Rattle.encoder.specs.declared.nameplate.Nameplate.{Nameplate}
 use Rattle.encoder.specs.declared.parameters.Parameters.{Parameters}
 use Rattle.encoder.specs.Parameters.{fieldsOf}
-use Rattle.sensor.specs.Reading.{rawOf}
 use Rattle.travel.specs.Travel.{oriented}
 use Rattle.travel.specs.declared.Reported.{Reported}
 use Rattle.travel.specs.declared.Reported.the-variants.{At, Refused}
-use Rattle.axis.specs.Reading.{startRefusal}
 use Rattle.cyclic.specs.Cycle.{four}
-use Rattle.accuracy.specs.Calls.{Call, reading, rawReading, batching, presetting, storing, cycling}
-use Rattle.accuracy.specs.Ledger.{Device, force, Ledger, opened, refusalBy, Preset, none, made, deed, moved, noted}
+use Rattle.accuracy.specs.Calls.{First, Call, reading, rawReading, batching, presetting, storing, cycling}
+use Rattle.accuracy.specs.Ledger.{Device, force, Ledger, startBy, firstRaw, opened, refusalBy, Preset, none, made, deed, moved, noted}
 
 -- any program: a start, calls, its answer when it is asked for the position, and the lent list or octets as a call on that state leaves them
 pub record Program : Type 1 where
   pub State : Type 0
-  pub start : Nameplate → Parameters → ℕ → ℕ → State
+  pub start : Nameplate → Parameters → First → State
   pub call : State → Call → State
   pub position : State → Reported
   pub lent : State → Call → List ℕ
@@ -130,5 +128,5 @@ Accurate d p a l (e ∷ es) =
 -- from any accepted start, over every list of calls
 abbrev pub Claim : Program → Type 0
 Claim p =
-    (d : Device) (step turn : ℕ) → startRefusal (d .plate) (d .parameters) step turn ≡ 0 → (es : List Event)
-    → Accurate d p (p .start (d .plate) (d .parameters) step turn) (opened d (rawOf (d .plate) step turn)) es
+    (d : Device) (first : First) → startBy d first ≡ 0 → (es : List Event)
+    → Accurate d p (p .start (d .plate) (d .parameters) first) (opened d (firstRaw d first)) es

@@ -25,7 +25,8 @@ use Rattle.link.specs.Class4 as Class4
 use Rattle.cyclic.specs.Class2.{wordOf}
 use Rattle.cyclic.specs.Class4.{counted}
 use Rattle.cyclic.specs.Cycle.{four, fits, linkAfter}
-use Rattle.accuracy.specs.Calls.{Call, reading, rawReading, batching, presetting, storing, cycling}
+use Rattle.axis.specs.Reading.{startRefusal, startRawRefusal}
+use Rattle.accuracy.specs.Calls.{First, firstReading, firstNumber, Call, reading, rawReading, batching, presetting, storing, cycling}
 
 -- what the axis was started with, and what that puts in force
 pub record Device : Type 0 where
@@ -43,6 +44,15 @@ pub record Ledger : Type 0 where
   pub last : ℕ
   pub stored : ℤ
   pub link : Link
+
+-- the number by which a start is refused, 0 where it is taken; and its raw number
+abbrev pub startBy : Device → First → ℕ
+startBy d (firstReading step turn) = startRefusal (d .plate) (d .parameters) step turn
+startBy d (firstNumber raw) = startRawRefusal (d .plate) (d .parameters) raw
+
+abbrev pub firstRaw : Device → First → ℕ
+firstRaw d (firstReading step turn) = rawOf (d .plate) step turn
+firstRaw d (firstNumber raw) = raw
 
 -- start: p = 0, g = the oriented number
 abbrev pub opened : Device → ℕ → Ledger

@@ -8,22 +8,26 @@ use Rattle.encoder.specs.declared.parameters.Parameters.{Parameters}
 use Rattle.axis.specs.declared.Axis.{Axis}
 use Rattle.axis.specs.declared.Next.{Next}
 use Rattle.axis.specs.Axis.{reported}
-use Rattle.axis.specs.Reading.{start, readRaw, read}
+use Rattle.axis.specs.Reading.{start, startRaw, readRaw, read}
 use Rattle.axis.specs.Preset.{preset, store}
 use Rattle.batch.specs.Batch.{batch, batchList}
 use Rattle.link.specs.declared.Link.{Link}
 use Rattle.link.specs.Link.{quiet}
 use Rattle.cyclic.specs.declared.Cycled.{Cycled}
 use Rattle.cyclic.specs.Cycle.{cycle, cycleInput}
-use Rattle.accuracy.specs.Calls.{Call, reading, rawReading, batching, presetting, storing, cycling}
+use Rattle.accuracy.specs.Calls.{First, firstReading, firstNumber, Call, reading, rawReading, batching, presetting, storing, cycling}
 use Rattle.accuracy.specs.Claim.{Program}
 
 pub record State : Type 0 where
   pub axis : Axis
   pub link : Link
 
-abbrev pub begin : Nameplate → Parameters → ℕ → ℕ → State
-begin n p step turn = record { axis = start n p step turn .axis; link = quiet }
+abbrev pub starts : Nameplate → Parameters → First → Next
+starts n p (firstReading step turn) = start n p step turn
+starts n p (firstNumber raw) = startRaw n p raw
+
+abbrev pub begin : Nameplate → Parameters → First → State
+begin n p first = record { axis = starts n p first .axis; link = quiet }
 
 -- a call without the link leaves it
 abbrev pub to : State → Next → State

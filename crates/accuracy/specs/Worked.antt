@@ -7,7 +7,7 @@ use Prim.Native.Nat.{ℕ, zero, suc}
 use lib.IntN.{ℤ, pos, negsuc}
 use Rattle.encoder.specs.Combinations.{plate}
 use Rattle.encoder.specs.declared.parameters.Parameters.the-variants.{Class2, Class4}
-use Rattle.accuracy.specs.Calls.{Call, reading, rawReading, batching, presetting, storing, cycling}
+use Rattle.accuracy.specs.Calls.{firstReading, Call, reading, rawReading, batching, presetting, storing, cycling}
 use Rattle.accuracy.specs.Ledger.{Device, Ledger, deed, noted}
 use Rattle.accuracy.specs.Claim.{Event, number}
 use Rattle.accuracy.specs.Run.{State}
@@ -101,7 +101,7 @@ run4u =
 
 -- ---- the same, from the definitions
 abbrev pub begun : Device → ℕ → ℕ → State
-begun d step turn = ours .start (d .plate) (d .parameters) step turn
+begun d step turn = ours .start (d .plate) (d .parameters) (firstReading step turn)
 
 -- the calls, each with what the definitions give
 unfoldable pub traced : Device → State → Ledger → List Line → List Line

@@ -128,7 +128,7 @@ abbrev pub addsRounded : Program
 addsRounded =
     record {
       State = Adding;
-      start = λ n p step turn. record { state = begin n p step turn; position = positionOf (begin n p step turn .axis) };
+      start = λ n p first. record { state = begin n p first; position = positionOf (begin n p first .axis) };
       call = added;
       position = λ s. at (s .position) (s .position);
       lent = λ s c. lentBy (s .state) c;

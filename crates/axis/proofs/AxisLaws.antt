@@ -1,7 +1,7 @@
 -- The limits of a record as a test and as facts, each way out of the test, and the answer taken apart.
 -- Assumes nothing.
-use mathlib.Core.Path.{_≡_, refl, sym, _∙_}
-use mathlib.Core.Bool.{Bool, true, false, not, _&&_}
+use mathlib.Core.Path.{_≡_, sym, _∙_}
+use mathlib.Core.Bool.{Bool, true, false, _&&_}
 use Prim.Native.Nat.{ℕ, _<_}
 use native.Mathlib.Omega.{arith}
 use lib.IntN.{natAbs}
@@ -13,10 +13,10 @@ use Rattle.ring.specs.Ring.{inRange}
 use Rattle.encoder.specs.declared.effect.InForce.{InForce}
 use Rattle.encoder.specs.declared.effect.Effect.{Effect}
 use Rattle.encoder.specs.declared.effect.Effect.the-variants.{Taken, Refused}
-use Rattle.encoder.specs.Refusal.{when}
 use Rattle.encoder.specs.Parameters.{refusalOn}
 use Rattle.encoder.specs.InForce.{inForce}
 use Rattle.encoder.proofs.PlateLaws.{and-split}
+use Rattle.encoder.proofs.RefusalLaws.{when-none}
 use Rattle.encoder.proofs.ForceLaws.{effect-taken, effect-refused, in-force-taken, in-force-refused}
 use Rattle.travel.specs.Travel.{inside, Inside}
 use Rattle.travel.proofs.TravelLaws.{inside-true, inside-is}
@@ -97,16 +97,12 @@ pub limits-none : (a : Axis) → Limits a → axisRefusal a ≡ 0
 limits-none a l = accepted-none a (accepts a l)
 
 -- ---- the answer taken apart
-none-outside : (b : Bool) → when (not b) 16 ≡ 0 → b ≡ true
-none-outside true e = refl
-none-outside false e = absurd (omega arith)
-
 module _ (a : Axis) (e : Effect) where
   pub ready-of : (f : InForce) → e ≡ Taken f → e ≡ inForceOn a → Ready a f
   unfolding inForceOn axisRefusal
   ready-of f h e-is =
       let i = effect-taken (axisRefusal a) (rulesOn a) f (sym e-is ∙ h) in
-      let t = none-outside (acceptable a) (i .0) in
+      let t = when-none (acceptable a) 15 (i .0) in
       let l = limits-of a t in
       record { is = i .1; stands = t; travel = rw (i .1) (l .travel); offset = rw (i .1) (l .offset) }
 

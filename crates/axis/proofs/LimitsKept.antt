@@ -6,16 +6,16 @@ use mathlib.Core.Bool.{Bool, true, false, not}
 use Prim.Native.Nat.{ℕ, zero, suc, _<_}
 use native.Mathlib.Omega.{arith}
 use native.Mathlib.Nat as N
-use lib.Dec.{ltb}
+use lib.Dec.{ltb, leb}
 use lib.IntN.{ℤ, pos, natAbs, _+ℤ_, _-ℤ_}
-use borrow.Author.Tests.{ltb-true}
-use Rattle.integer.proofs.Signed.{signed, apart, diff-is}
+use borrow.Author.Tests.{ltb-true, leb-false}
+use Rattle.integer.proofs.Signed.{signed, apart, add-is, diff-is}
 use Rattle.integer.proofs.Size.{abs-is}
-use Rattle.integer.proofs.Modulus.{modulo-lt}
+use Rattle.integer.proofs.Modulus.{modulo-lt, modulo-is}
 use Rattle.ring.specs.Ring.{inRange}
 use Rattle.encoder.specs.declared.nameplate.Nameplate.{Nameplate}
 use Rattle.encoder.specs.declared.parameters.Parameters.{Parameters}
-use Rattle.encoder.specs.Refusal.{wrongPreset, classOff, when}
+use Rattle.encoder.specs.Refusal.{wrongTurn, wrongPreset, classOff, when, _before_}
 use Rattle.sensor.specs.Reading.{rawOf, stepRefusal}
 use Rattle.encoder.specs.Nameplate.{capacityOf}
 use Rattle.encoder.specs.Parameters.{fieldsOf, refusalOn}
@@ -23,17 +23,18 @@ use Rattle.encoder.specs.InForce.{rulesOf}
 use Rattle.encoder.proofs.RefusalLaws.{before-none}
 use Rattle.sensor.proofs.ReadingLaws.{reading-lt}
 use Rattle.encoder.proofs.SoundLaws.{taken-sound}
-use Rattle.travel.specs.Travel.{nowhere, started as travelStarted, unshifted, travelRefusal}
+use Rattle.travel.specs.Travel.{nowhere, started as travelStarted, unshifted, positionAt, travelRefusal}
 use Rattle.travel.proofs.TravelLaws.{inside-is, nowhere-out, started-kept as travel-kept}
 use Rattle.shift.specs.Shift.{valueRefusal}
 use Rattle.axis.specs.declared.Axis.{Axis}
+use Rattle.axis.specs.declared.Next.{Next}
 use Rattle.axis.specs.Axis.{rulesOn, acceptable, axisRefusal, unshiftedOf, positionOf}
-use Rattle.axis.specs.Reading.{next, fresh, startRefusal, start, atRaw, readRawRefusal, readRaw, readRefusal, read}
+use Rattle.axis.specs.Reading.{next, fresh, startRefusal, start, startRawRefusal, startRaw, atRaw, readRawRefusal, readRaw, readRefusal, read}
 use Rattle.axis.specs.Preset.{presetRefusal, asked, presetted, preset, holding, store}
 use Rattle.axis.proofs.AxisLaws.{Limits, limits-of, accepts}
 use Rattle.axis.proofs.ReadingLaws.{first, travelled-kept}
 
-apart-lt : (x y n : ℕ) → x < n → y < n → natAbs (pos x -ℤ pos y) < n
+pub apart-lt : (x y n : ℕ) → x < n → y < n → natAbs (pos x -ℤ pos y) < n
 apart-lt x y n h k = let z = pos x -ℤ pos y in omega (signed, diff-is (pos x) (pos y), abs-is z, apart z)
 
 -- the axis of an answer is the one before, or that of a call that was taken
@@ -63,7 +64,15 @@ module _ (a : Axis) (l : Limits a) where
   asked-lt v true = modulo-lt (pos (positionOf a) +ℤ v) span-least
   asked-lt v false = modulo-lt v span-least
 
-  unshifted-lt : unshiftedOf a < rulesOn a .span .0
+  -- so the position becomes the one that is asked for
+  pub put-is : (v : ℤ) (relative : Bool) → positionOf (presetted a v relative) ≡ asked a v relative
+  unfolding positionOf positionAt presetted unshiftedOf rulesOn
+  put-is v relative =
+      let u = unshifted (rulesOn a) (a .travel) in
+      let n = asked a v relative in
+      modulo-is (pos u +ℤ (pos n -ℤ pos u)) 0 0 (asked-lt v relative) (omega (arith, add-is (pos u) (pos n -ℤ pos u), diff-is (pos n) (pos u)))
+
+  pub unshifted-lt : unshiftedOf a < rulesOn a .span .0
   unfolding unshiftedOf unshifted
   unshifted-lt = N.mod-lt _ span-least
 
@@ -113,20 +122,16 @@ begun-kept n p raw e h =
       stored = s .span-least;
     }
 
-module _ (n : Nameplate) (p : Parameters) (s t : ℕ) where
-  by-start : (k : ℕ) → startRefusal n p s t ≡ k → next (fresh n p nowhere) k (first n p s t) .refusal ≡ 0
-      → acceptable (next (fresh n p nowhere) k (first n p s t) .axis) ≡ true
-  unfolding startRefusal
-  by-start zero e z =
-      let h = before-none (refusalOn n p) (stepRefusal n s t) e in
-      accepts _ (begun-kept n p (rawOf n s t) (h .0) (reading-lt n s t (h .1)))
-  by-start (suc k) e z = absurd (omega arith)
+module _ (n : Nameplate) (p : Parameters) (raw later : ℕ) where
+  abbrev begins : ℕ → Next
+  begins k = next (fresh n p nowhere) k (first n p raw)
 
-  pub started-kept : start n p s t .refusal ≡ 0 → acceptable (start n p s t .axis) ≡ true
-  unfolding start
-  started-kept z = by-start (startRefusal n p s t) refl z
+  -- by the refusal k of plate, parameters and then a first reading, which has a raw number below C where it is taken
+  by-start : (k : ℕ) → (refusalOn n p before later) ≡ k → (later ≡ 0 → raw < capacityOf n) → begins k .refusal ≡ 0 → acceptable (begins k .axis) ≡ true
+  by-start zero e below z = let h = before-none (refusalOn n p) later e in accepts _ (begun-kept n p raw (h .0) (below (h .1)))
+  by-start (suc k) e below z = absurd (omega arith)
 
-  by-refused : (k : ℕ) → (next (fresh n p nowhere) k (first n p s t) .refusal ≡ 0 → ⊥) → acceptable (next (fresh n p nowhere) k (first n p s t) .axis) ≡ false
+  by-refused : (k : ℕ) → (begins k .refusal ≡ 0 → ⊥) → acceptable (begins k .axis) ≡ false
   by-refused zero z = absurd (z refl)
   by-refused (suc k) z = outside-nowhere (acceptable (fresh n p nowhere)) refl
     where
@@ -136,6 +141,28 @@ module _ (n : Nameplate) (p : Parameters) (s t : ℕ) where
           let i = limits-of (fresh n p nowhere) e .travel in
           nowhere-out (rulesOn (fresh n p nowhere)) true (inside-is (rulesOn (fresh n p nowhere)) nowhere i)
 
+module _ (n : Nameplate) (p : Parameters) (s t : ℕ) where
+  pub started-kept : start n p s t .refusal ≡ 0 → acceptable (start n p s t .axis) ≡ true
+  unfolding start startRefusal
+  started-kept z = by-start n p (rawOf n s t) (stepRefusal n s t) (startRefusal n p s t) refl (reading-lt n s t) z
+
   pub refused-outside : (start n p s t .refusal ≡ 0 → ⊥) → acceptable (start n p s t .axis) ≡ false
   unfolding start
-  refused-outside z = by-refused (startRefusal n p s t) z
+  refused-outside z = by-refused n p (rawOf n s t) (stepRefusal n s t) (startRefusal n p s t) z
+
+module _ (n : Nameplate) (p : Parameters) (raw : ℕ) where
+  -- a raw number that is taken is below C
+  pub number-lt : when (leb (capacityOf n) raw) wrongTurn ≡ 0 → raw < capacityOf n
+  number-lt z = go (leb (capacityOf n) raw) refl z
+    where
+      go : (b : Bool) → leb (capacityOf n) raw ≡ b → when b 9 ≡ 0 → raw < capacityOf n
+      go true e h = absurd (omega arith)
+      go false e h = leb-false _ _ e
+
+  pub raw-started-kept : startRaw n p raw .refusal ≡ 0 → acceptable (startRaw n p raw .axis) ≡ true
+  unfolding startRaw startRawRefusal
+  raw-started-kept z = by-start n p raw (when (leb (capacityOf n) raw) wrongTurn) (startRawRefusal n p raw) refl number-lt z
+
+  pub raw-refused-outside : (startRaw n p raw .refusal ≡ 0 → ⊥) → acceptable (startRaw n p raw .axis) ≡ false
+  unfolding startRaw
+  raw-refused-outside z = by-refused n p raw 0 (startRawRefusal n p raw) z

@@ -1,7 +1,10 @@
 -- Start and reading: each way out, by the answers of the calls on that way.
 -- Assumes nothing.
-use mathlib.Core.Path.{_≡_, sym, ap, _∙_}
-use Prim.Native.Nat.{ℕ, _<_}
+use mathlib.Core.Path.{_≡_, refl, sym, _∙_}
+use mathlib.Core.Bool.{false}
+use Prim.Native.Nat.{ℕ, zero, suc}
+use lib.Dec.{leb}
+use borrow.Author.Tests.{lt-leb}
 use Rattle.encoder.specs.declared.nameplate.Nameplate.{Nameplate}
 use Rattle.encoder.specs.declared.parameters.Parameters.{Parameters}
 use Rattle.encoder.specs.declared.effect.InForce.{InForce}
@@ -9,11 +12,10 @@ use Rattle.encoder.specs.declared.effect.Effect.{Effect}
 use Rattle.encoder.specs.declared.effect.Effect.the-variants.{Taken, Refused as NotInForce}
 use Rattle.sensor.specs.declared.Reading.{Reading}
 use Rattle.sensor.specs.declared.Reading.the-variants.{Number, Refused as NotRead}
-use Rattle.encoder.specs.Refusal.{_before_}
-use Rattle.sensor.specs.declared.Sensed.{Sensed}
-use Rattle.sensor.specs.Reading.{rawOf, stepRefusal, numbered, sensed}
+use Rattle.encoder.specs.Refusal.{wrongTurn, when, _before_, answer}
+use Rattle.sensor.specs.Reading.{rawOf, stepRefusal, numbered}
 use Rattle.encoder.specs.Nameplate.{capacityOf}
-use Rattle.encoder.specs.Parameters.{fieldsOf}
+use Rattle.encoder.specs.Parameters.{fieldsOf, refusalOn}
 use Rattle.encoder.specs.InForce.{rulesOf, inForce}
 use Rattle.encoder.proofs.RefusalLaws.{refused-is, before-first}
 use Rattle.sensor.proofs.ReadingLaws.{reading-taken, reading-refused, reading-lt}
@@ -24,11 +26,11 @@ use Rattle.travel.specs.declared.Moved.{Moved}
 use Rattle.travel.specs.declared.Moved.the-variants.{To, Refused as NotMoved}
 use Rattle.travel.specs.Travel.{nowhere, started, moveRefusal, movedTo, begun, travelRefusal, moved}
 use Rattle.travel.proofs.SensorLaws.{raw-lt}
-use Rattle.travel.proofs.TravelLaws.{moved-kept, read-refusal, to-taken, to-refused, begun-is}
+use Rattle.travel.proofs.TravelLaws.{moved-kept, read-refusal, to-taken, to-refused, begun-by}
 use Rattle.axis.specs.declared.Axis.{Axis}
 use Rattle.axis.specs.declared.Next.{Next}
 use Rattle.axis.specs.Axis.{rulesOn, axisRefusal, inForceOn, Ready}
-use Rattle.axis.specs.Reading.{accepted, refused, next, fresh, begunBy, startRefusal, start, startRaw, travelled, atRaw, readRawRefusal, readRaw, readRefusal, read}
+use Rattle.axis.specs.Reading.{accepted, refused, next, fresh, begunBy, startRefusal, start, startRawRefusal, startRaw, travelled, atRaw, readRawRefusal, readRaw, readRefusal, read}
 use Rattle.axis.proofs.AxisLaws.{Limits, limits-none, ready-of, outside-of, stands-none}
 
 -- ---- the first refusal is the answer
@@ -112,37 +114,59 @@ module _ (n : Nameplate) (p : Parameters) (m : Moved) (x : Next) where
 
 pub ruleset begins = (begun-at, begun-not)
 
-abbrev pub first : Nameplate → Parameters → ℕ → ℕ → Axis
-first n p s t = fresh n p (started (rulesOf n (fieldsOf p)) (rawOf n s t))
+-- an axis that stands at its first raw number
+abbrev pub first : Nameplate → Parameters → ℕ → Axis
+first n p raw = fresh n p (started (rulesOf n (fieldsOf p)) raw)
 
-module _ (n : Nameplate) (p : Parameters) (s t : ℕ) (e : Effect) (e-is : e ≡ inForce n p) (x : Next) where
-  pub start-parameters : (j : ℕ) → e ≡ NotInForce j → x ≡ refused (fresh n p nowhere) j → x ≡ start n p s t
-  unfolding start startRefusal
-  start-parameters j h w =
-      let i = in-force-refused n p e j h e-is in
-      w ∙ rw (i .0) (next-first (fresh n p nowhere) (first n p s t) j (stepRefusal n s t) (i .1))
+module _ (n : Nameplate) (p : Parameters) (e : Effect) (e-is : e ≡ inForce n p) (x : Next) where
+  -- 7, 3, 4, 5, 6 precede whatever a first reading is refused for
+  parameters-first : (j later : ℕ) (b : Axis) → e ≡ NotInForce j → x ≡ refused (fresh n p nowhere) j → x ≡ next (fresh n p nowhere) (refusalOn n p before later) b
+  parameters-first j later b h w = let i = in-force-refused n p e j h e-is in w ∙ rw (i .0) (next-first (fresh n p nowhere) b j later (i .1))
 
-  module _ (f : InForce) (h : e ≡ Taken f) (q : Reading) (q-is : q ≡ numbered n s t) where
-    pub start-reading : (j : ℕ) → q ≡ NotRead j → x ≡ refused (fresh n p nowhere) j → x ≡ start n p s t
-    unfolding start startRefusal
-    start-reading j g w =
-        let i = reading-refused n s t q j g q-is in
-        w ∙ rw (in-force-taken n p e f h e-is .0, i .0) (next-refused (fresh n p nowhere) (first n p s t) j (i .1))
+  module _ (f : InForce) (h : e ≡ Taken f) where
+    parameters-none : refusalOn n p ≡ 0
+    parameters-none = in-force-taken n p e f h e-is .0
 
-    -- a raw number of the sensor is not refused
-    pub start-to : (raw : ℕ) (m : Moved) → q ≡ Number raw → m ≡ begun f raw → x ≡ begunBy n p m → x ≡ start n p s t
-    unfolding start startRefusal rulesOf
-    start-to raw m g m-is w =
+    -- of a raw number at or above C the travel answers 9, and of any other where it stands
+    begun-next : (raw : ℕ) (m : Moved) → m ≡ begun f raw → x ≡ begunBy n p m → x ≡ next (fresh n p nowhere) (when (leb (capacityOf n) raw) wrongTurn) (first n p raw)
+    unfolding rulesOf
+    begun-next raw m m-is w =
         let i = in-force-taken n p e f h e-is in
-        let j = reading-taken n s t q raw g q-is in
-        let l : raw < capacityOf n = rw (j .1) (reading-lt n s t (j .0)) in
-        let b : raw < f .capacity .0 = rw (i .1) l in
-        let k : m ≡ To (started f raw) = m-is ∙ begun-is f raw (rw (i .1) (taken-sound n p (i .0))) b in
-        w ∙ rw (k, i .0, j .0, i .1, j .1)
+        w ∙ rw (m-is, begun-by f raw (rw (i .1) (taken-sound n p (i .0))), i .1) (go (when (leb (capacityOf n) raw) wrongTurn))
+      where
+        go : (j : ℕ) → begunBy n p (answer NotMoved (To (started (rulesOf n (fieldsOf p)) raw)) j) ≡ next (fresh n p nowhere) j (first n p raw)
+        go zero = refl
+        go (suc j) = refl
 
--- a raw number, by its step and turn
-pub start-raw-is : (n : Nameplate) (p : Parameters) (raw : ℕ) (q : Sensed) (x : Next) → q ≡ sensed n raw → x ≡ start n p (q .step .0) (q .turn .0) → x ≡ startRaw n p raw
-unfolding startRaw
-start-raw-is n p raw q x q-is x-is = x-is ∙ ap (λ (k : Sensed). start n p (k .step .0) (k .turn .0)) q-is
+  module _ (s t : ℕ) where
+    pub start-parameters : (j : ℕ) → e ≡ NotInForce j → x ≡ refused (fresh n p nowhere) j → x ≡ start n p s t
+    unfolding start startRefusal
+    start-parameters j h w = parameters-first j (stepRefusal n s t) (first n p (rawOf n s t)) h w
 
-pub ruleset starts = (start-parameters, start-reading, start-to, start-raw-is)
+    module _ (f : InForce) (h : e ≡ Taken f) (q : Reading) (q-is : q ≡ numbered n s t) where
+      pub start-reading : (j : ℕ) → q ≡ NotRead j → x ≡ refused (fresh n p nowhere) j → x ≡ start n p s t
+      unfolding start startRefusal
+      start-reading j g w =
+          let i = reading-refused n s t q j g q-is in
+          w ∙ rw (parameters-none f h, i .0) (next-refused (fresh n p nowhere) (first n p (rawOf n s t)) j (i .1))
+
+      -- a raw number of the sensor is not refused
+      pub start-to : (raw : ℕ) (m : Moved) → q ≡ Number raw → m ≡ begun f raw → x ≡ begunBy n p m → x ≡ start n p s t
+      unfolding start startRefusal
+      start-to raw m g m-is w =
+          let j = reading-taken n s t q raw g q-is in
+          let below : leb (capacityOf n) raw ≡ false = lt-leb (capacityOf n) raw (rw (j .1) (reading-lt n s t (j .0))) in
+          rw (parameters-none f h, j .0, ← j .1) (rw below at (begun-next f h raw m m-is w))
+
+  module _ (raw : ℕ) where
+    pub start-raw-parameters : (j : ℕ) → e ≡ NotInForce j → x ≡ refused (fresh n p nowhere) j → x ≡ startRaw n p raw
+    unfolding startRaw startRawRefusal
+    start-raw-parameters j h w = parameters-first j (when (leb (capacityOf n) raw) wrongTurn) (first n p raw) h w
+
+    pub start-raw-to : (f : InForce) (m : Moved) → e ≡ Taken f → m ≡ begun f raw → x ≡ begunBy n p m → x ≡ startRaw n p raw
+    unfolding startRaw startRawRefusal
+    start-raw-to f m h m-is w = rw (parameters-none f h) (begun-next f h raw m m-is w)
+
+pub ruleset starts = (start-parameters, start-reading, start-to)
+
+pub ruleset raw-starts = (start-raw-parameters, start-raw-to)

@@ -1,11 +1,13 @@
 -- Start and reading: each yields the next axis, or the axis as it was beside the number of the refusal (document 01, "The axis", rules 2 and 3).
 -- Assumes nothing.
 use Prim.Native.Nat.{ℕ}
+use lib.Dec.{leb}
 use lib.IntN.{pos}
 use Rattle.encoder.specs.declared.nameplate.Nameplate.{Nameplate}
 use Rattle.encoder.specs.declared.parameters.Parameters.{Parameters}
-use Rattle.encoder.specs.Refusal.{_before_, answer}
-use Rattle.sensor.specs.Reading.{rawOf, stepRefusal, sensed}
+use Rattle.encoder.specs.Refusal.{wrongTurn, when, _before_, answer}
+use Rattle.encoder.specs.Nameplate.{capacityOf}
+use Rattle.sensor.specs.Reading.{rawOf, stepRefusal}
 use Rattle.encoder.specs.Parameters.{fieldsOf, refusalOn}
 use Rattle.encoder.specs.InForce.{rulesOf}
 use Rattle.travel.specs.declared.Travel.{Travel}
@@ -42,9 +44,12 @@ startRefusal n p s t = refusalOn n p before stepRefusal n s t
 unfoldable pub start : Nameplate → Parameters → ℕ → ℕ → Next
 start n p s t = next (fresh n p nowhere) (startRefusal n p s t) (fresh n p (started (rulesOf n (fieldsOf p)) (rawOf n s t)))
 
--- the same from a raw number, by the step and the turn that it stands for: 9 where there is no such raw number
+-- the same from a raw number: 7, 3, 4, 5, 6, then 9 where it is C or above
+unfoldable pub startRawRefusal : Nameplate → Parameters → ℕ → ℕ
+startRawRefusal n p raw = refusalOn n p before when (leb (capacityOf n) raw) wrongTurn
+
 unfoldable pub startRaw : Nameplate → Parameters → ℕ → Next
-startRaw n p raw = start n p (sensed n raw .step .0) (sensed n raw .turn .0)
+startRaw n p raw = next (fresh n p nowhere) (startRawRefusal n p raw) (fresh n p (started (rulesOf n (fieldsOf p)) raw))
 
 -- 3. an axis that has moved
 abbrev pub travelled : Axis → Travel → Axis

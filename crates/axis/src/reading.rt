@@ -11,7 +11,6 @@ use encoder::quantity::Steps;
 use encoder::quantity::Turns;
 use sensor::Reading;
 use sensor::raw_number;
-use sensor::sense;
 use travel::Moved;
 use travel::Travel;
 
@@ -33,8 +32,10 @@ impl Axis {
     pub fn start_raw(plate: Nameplate, parameters: Parameters, raw: u32) -> Next
         ensures { λ r. ⌜ r ≡ startRaw plate parameters raw ⌝ }
     {
-        let sensed = sense(plate, raw);
-        Axis::start(plate, parameters, sensed.step, sensed.turn)
+        match in_force(plate, parameters) {
+            Effect::Taken(rules) => Axis::begun(plate, parameters, Travel::begin(rules, raw)),
+            Effect::Refused(n) => Axis::begun(plate, parameters, Moved::Refused(n)),
+        }
     }
 
     // By where the first reading leads: an axis there, or none and the number of the refusal.

@@ -50,13 +50,15 @@ fn print(input: &[u8], output: &mut [u8; OUTPUT]) {
 
 fn emit(input: &[u8], output: &mut [u8]) {
     match answer(input, output) {
-        Outcome::Written(n) => {
-            if !io::write_all(STDOUT_FILENO, &output[..n]) {
-                complain(b"axislog: standard output cannot be written\n");
-            }
-        }
-        // never: the buffer has its length
-        Outcome::Refused(_) => complain(b"axislog: no room for the answers\n"),
+        Outcome::Written(n) => write(&output[..n]),
+        // 15: the log is too long. Not 13: the buffer has its length
+        Outcome::Refused(_) => write(b"(refused 15)\n"),
+    }
+}
+
+fn write(text: &[u8]) {
+    if !io::write_all(STDOUT_FILENO, text) {
+        complain(b"axislog: standard output cannot be written\n");
     }
 }
 

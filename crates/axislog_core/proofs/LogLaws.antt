@@ -8,7 +8,6 @@ use native.Mathlib.Omega.{arith}
 use lib.Dec.{eqb}
 use lib.ListN.{length, take, drop, length-drop, length-append, drop-of-length-le}
 use lib.Seq.{drop-drop, take-length}
-use borrow.Author.Tests.{le-ltb}
 use borrow.Rule.Slice.PartMut.{putMid}
 use mir.Syntax.{w64}
 use mir.Val.{Fits}
@@ -69,6 +68,7 @@ module _ (a : Answer) (r : Line) (r-is : r ≡ line a) (b : List ℕ) (at : ℕ)
 
 -- ---- the loop: `done` is written so far
 pub record Running (input out₀ out : List ℕ) (from at : ℕ) (s : State) : Type 0 where
+  pub short : length input ≤ 60000
   pub done : List ℕ
   pub at-is : at ≡ length done
   pub same : length out ≡ length out₀
@@ -77,7 +77,7 @@ pub record Running (input out₀ out : List ℕ) (from at : ℕ) (s : State) : T
 
 pub run-start : (input out : List ℕ) (s : State) → length input ≤ 60000 → s ≡ empty → Running input out out 0 0 s
 unfolding answers
-run-start input out s h s-is = record { done = []; at-is = refl; same = refl; out-is = refl; total = rw (le-ltb 60000 (length input) h, s-is) }
+run-start input out s h s-is = record { short = h; done = []; at-is = refl; same = refl; out-is = refl; total = rw s-is }
 
 module _ (input out₀ out : List ℕ) (from at : ℕ) (s : State) (inv : Running input out₀ out from at s) where
   module _ (end : ℕ) (h : from < length input) (end-is : end ≡ from + indexOf 10 (slice from (length input) input)) (f : Form)
@@ -98,11 +98,12 @@ module _ (input out₀ out : List ℕ) (from at : ℕ) (s : State) (inv : Runnin
     pub run-room : length out₀ ≡ 780000 → at + length (text (q .answer)) ≤ length out
     run-room l =
         let e = ap length rest in
-        omega (arith, inv .at-is, inv .same, answers-room input, simp (length-append) at e)
+        omega (arith, inv .at-is, inv .same, answers-room input (inv .short), simp (length-append) at e)
 
     pub run-more : (out' : List ℕ) (at' : ℕ) → at' ≡ at + length (text (q .answer)) → out' ≡ over (take at out ++ text (q .answer)) out
         → length out' ≡ length out → Running input out₀ out' (end + 1) at' (q .state)
     run-more out' at' at'-is out'-is l = record {
+      short = inv .short;
       done = inv .done ++ text (q .answer);
       at-is = at'-is ∙ rw (inv .at-is, length-append);
       same = l ∙ inv .same;

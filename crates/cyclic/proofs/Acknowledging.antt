@@ -15,8 +15,8 @@ use Rattle.link.proofs.Acknowledging.{gone}
 use Rattle.cyclic.specs.declared.Cycled.{Cycled}
 use Rattle.cyclic.specs.Raw.{faultyAt}
 use Rattle.cyclic.specs.Class4.{stw2, stw, counted}
-use Rattle.cyclic.specs.Cycle.{four, cycleRefusal, linkAfter, axisAfter, cycled, cycle}
-use Rattle.cyclic.proofs.ReadyLaws.{after-same}
+use Rattle.cyclic.specs.Cycle.{four, cycleRefusal, linkAfter, axisAfter, linkLeft, cycled, cycle}
+use Rattle.cyclic.proofs.CycleKept.{after-same}
 
 -- ---- a cycle that is not refused leaves these
 by-number : (a b : Axis) (k j : Link) (n : ℕ) → cycled a k b j n .refusal ≡ 0 → cycled a k b j n ≡ record { axis = b; link = j; refusal = 0 }
@@ -25,7 +25,7 @@ by-number a b k j (suc n) e = absurd (omega arith)
 
 cycle-is : (a : Axis) (k : Link) (raw : ℕ) (output input : List ℕ) → cycle a k raw output input .refusal ≡ 0
     → cycle a k raw output input
-    ≡ record { axis = axisAfter a k raw output; link = linkAfter (rulesOn a) (a .parameters) k (faultyAt a raw) output; refusal = 0 }
+    ≡ record { axis = axisAfter a k raw output; link = linkLeft a k raw output; refusal = 0 }
 unfolding cycle
 cycle-is a k raw output input e = by-number a _ k _ (cycleRefusal a output input) e
 

@@ -1,50 +1,94 @@
--- A cycle keeps the limits: it is a reading, and a preset of a value that was tested, or held within them.
+-- Through a cycle an axis keeps nameplate and parameters, and so what is in force; and within its limits it stays: a cycle is a reading, and a
+-- preset of a value that was tested, or held within them.
 -- Assumes nothing.
-use mathlib.Core.Path.{_≡_, refl}
+use mathlib.Core.Path.{_≡_, refl, _∙_}
 use mathlib.Core.Bool.{Bool, true, false, cond}
 use mathlib.Core.List.{List}
 use Prim.Native.Nat.{ℕ, zero, suc, _<_}
-use lib.IntN.{ℤ, pos, natAbs}
+use lib.IntN.{ℤ, natAbs}
+use Rattle.encoder.specs.declared.effect.InForce.{InForce}
 use Rattle.axis.specs.declared.Axis.{Axis}
-use Rattle.axis.specs.Axis.{rulesOn}
-use Rattle.axis.specs.Reading.{readRaw}
+use Rattle.axis.specs.declared.Next.{Next}
+use Rattle.axis.specs.Axis.{rulesOn, Ready}
+use Rattle.axis.specs.Reading.{next, atRaw, readRaw, readRawRefusal}
 use Rattle.axis.specs.Preset.{presetted}
-use Rattle.axis.proofs.AxisLaws.{Limits}
+use Rattle.axis.proofs.AxisLaws.{Limits, limits-of, accepts}
 use Rattle.axis.proofs.LimitsKept.{raw-kept, presetted-kept}
 use Rattle.link.specs.declared.Link.{Link}
-use Rattle.link.specs.Class2.{value, made as made2}
-use Rattle.link.specs.Class4.{relative, made as made4}
-use Rattle.link.proofs.Class2Laws.{made-below}
+use Rattle.link.specs.Reaction.{reaction}
+use Rattle.link.proofs.Possible.{possible}
 use Rattle.cyclic.specs.Raw.{faultyAt, takenAt}
+use Rattle.cyclic.specs.Preset.{presetBy}
 use Rattle.cyclic.specs.Class2.{wordOf, axis as axis2}
 use Rattle.cyclic.specs.Class4.{counted, axis as axis4}
-use Rattle.cyclic.specs.Cycle.{four, cycleRefusal, axisAfter, cycled, cycle}
+use Rattle.cyclic.specs.Cycle.{four, wordBy, cycleRefusal, axisAfter, cycled, cycle}
 
+-- ---- the axis that a cycle leaves, by the preset that it makes: of either class alike
+after-by : (class : Bool) (b : Axis) (k : Link) (faulty : Bool) (output : List ℕ)
+    → cond class (axis4 b k faulty (counted output)) (axis2 b k faulty (wordOf output))
+    ≡ presetBy b (reaction class (rulesOn b) k faulty (wordBy class output) (b .stored) .preset)
+unfolding axis2 axis4
+after-by true b k faulty output = refl
+after-by false b k faulty output = refl
+
+pub after-is : (a : Axis) (k : Link) (raw : ℕ) (output : List ℕ) → let b = takenAt a raw in let class = four (a .parameters) in
+    axisAfter a k raw output ≡ presetBy b (reaction class (rulesOn b) k (faultyAt a raw) (wordBy class output) (b .stored) .preset)
+unfolding axisAfter
+after-is a k raw output = after-by (four (a .parameters)) (takenAt a raw) k (faultyAt a raw) output
+
+-- ---- nameplate and parameters
+abbrev pub Same : Axis → Axis → Type 0
+Same a b = (b .nameplate ≡ a .nameplate) × (b .parameters ≡ a .parameters)
+
+read-same : (a : Axis) (raw : ℕ) → Same a (readRaw a raw .axis)
+unfolding readRaw atRaw
+read-same a raw = by (readRawRefusal a raw)
+  where
+    by : (n : ℕ) → Same a (next a n (atRaw a raw) .axis)
+    by zero = (refl, refl)
+    by (suc n) = (refl, refl)
+
+preset-same : (a b : Axis) (v : ℤ) (relative made : Bool) → Same a b → Same a (cond made (presetted b v relative) b)
+unfolding presetted
+preset-same a b v relative true s = s
+preset-same a b v relative false s = s
+
+pub after-same : (a : Axis) (k : Link) (raw : ℕ) (output : List ℕ) → Same a (axisAfter a k raw output)
+unfolding takenAt
+after-same a k raw output =
+    let o = reaction (four (a .parameters)) (rulesOn (readRaw a raw .axis)) k (faultyAt a raw) (wordBy (four (a .parameters)) output) (readRaw a raw .axis .stored) .preset in
+    rw (after-is a k raw output) (preset-same a (readRaw a raw .axis) (o .value) (o .relative) (o .made) (read-same a raw))
+
+-- ---- the limits
 preset-by : (a : Axis) (v : ℤ) (relative made : Bool) → Limits a → (made ≡ true → natAbs v < rulesOn a .span .0)
     → Limits (cond made (presetted a v relative) a)
 preset-by a v relative true l h = presetted-kept a l v relative (h refl)
 preset-by a v relative false l h = l
 
-pub class2-kept : (a : Axis) (k : Link) (faulty : Bool) (word : ℕ) → Limits a → Limits (axis2 a k faulty word)
-unfolding axis2
-class2-kept a k faulty word l =
-    preset-by a (pos (value word)) false (made2 (rulesOn a) k faulty word) l (made-below (rulesOn a) k faulty word)
-
-pub class4-kept : (a : Axis) (k : Link) (faulty : Bool) (word : ℕ) → Limits a → Limits (axis4 a k faulty word)
-unfolding axis4
-class4-kept a k faulty word l = preset-by a (a .stored) (relative word) (made4 (rulesOn a) k faulty word) l (λ e. l .stored)
-
-cycled-kept : (a : Axis) (k : Link) (raw : ℕ) (output : List ℕ) (class : Bool) → Limits a
-    → Limits (cond class (axis4 (takenAt a raw) k (faultyAt a raw) (counted output)) (axis2 (takenAt a raw) k (faultyAt a raw) (wordOf output)))
+after-kept : (a : Axis) (k : Link) (raw : ℕ) (output : List ℕ) → Limits a → Limits (axisAfter a k raw output)
 unfolding takenAt
-cycled-kept a k raw output true l = class4-kept (readRaw a raw .axis) k (faultyAt a raw) (counted output) (raw-kept a l raw)
-cycled-kept a k raw output false l = class2-kept (readRaw a raw .axis) k (faultyAt a raw) (wordOf output) (raw-kept a l raw)
+after-kept a k raw output l =
+    let b = readRaw a raw .axis in
+    let m = raw-kept a l raw in
+    let o = reaction (four (a .parameters)) (rulesOn b) k (faultyAt a raw) (wordBy (four (a .parameters)) output) (b .stored) .preset in
+    let p = possible (four (a .parameters)) (rulesOn b) k (faultyAt a raw) (wordBy (four (a .parameters)) output) (b .stored) (m .stored) in
+    rw (after-is a k raw output) (preset-by b (o .value) (o .relative) (o .made) m (p .below))
 
 by-number : (a b : Axis) (k j : Link) (n : ℕ) → Limits a → Limits b → Limits (cycled a k b j n .axis)
 by-number a b k j zero l m = m
 by-number a b k j (suc n) l m = l
 
 pub cycle-kept : (a : Axis) (k : Link) (raw : ℕ) (output input : List ℕ) → Limits a → Limits (cycle a k raw output input .axis)
-unfolding cycle axisAfter
-cycle-kept a k raw output input l =
-    by-number a (axisAfter a k raw output) k _ (cycleRefusal a output input) l (cycled-kept a k raw output (four (a .parameters)) l)
+unfolding cycle
+cycle-kept a k raw output input l = by-number a (axisAfter a k raw output) k _ (cycleRefusal a output input) l (after-kept a k raw output l)
+
+-- ---- and both
+ready-by : (a b : Axis) (f : InForce) → Ready a f → Same a b → Limits b → Ready b f
+unfolding rulesOn
+ready-by a b f r s l =
+    let e : f ≡ rulesOn b = r .is ∙ rw (s .0, s .1) in
+    record { is = e; stands = accepts b l; travel = rw e (l .travel); offset = rw e (l .offset) }
+
+module _ (a : Axis) (f : InForce) (r : Ready a f) where
+  pub read-ready : (raw : ℕ) (x : Next) → x ≡ readRaw a raw → Ready (x .axis) f
+  read-ready raw x x-is = rw x-is (ready-by a (readRaw a raw .axis) f r (read-same a raw) (raw-kept a (limits-of a (r .stands)) raw))

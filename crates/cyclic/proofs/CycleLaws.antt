@@ -3,14 +3,18 @@
 use mathlib.Core.Path.{_≡_, refl, sym, ap, _∙_}
 use mathlib.Core.Bool.{Bool, true, false, cond, not, _&&_}
 use mathlib.Core.List.{List}
-use Prim.Native.Nat.{ℕ, _%_, _^_}
+use Prim.Native.Nat.{ℕ, _%_, _^_, _<_}
 use native.Mathlib.Omega.{arith}
 use native.Mathlib.Nat as N
 use lib.Dec.{eqb}
+use lib.IntN.{ℤ, natAbs}
 use lib.ListN.{length}
 use borrow.Author.Tests.{eqb-true, not-false}
-use Rattle.integer.specs.Octets.{bigEndian}
+use mir.Syntax.{w64}
+use mir.Val.{toZ, ofZ}
+use Rattle.integer.specs.Octets.{bigEndian, octets}
 use Rattle.integer.proofs.Octets.{Octets, bigEndian-lt}
+use Rattle.integer.proofs.Size.{reads, fits-abs}
 use Rattle.encoder.specs.declared.parameters.Parameters.{Parameters}
 use Rattle.encoder.specs.declared.parameters.Fields.{Fields}
 use Rattle.encoder.specs.declared.effect.InForce.{InForce}
@@ -21,22 +25,28 @@ use Rattle.encoder.proofs.PlateLaws.{and-split}
 use Rattle.encoder.proofs.RefusalLaws.{refused-is, before-first}
 use Rattle.axis.specs.declared.Axis.{Axis}
 use Rattle.axis.specs.declared.Next.{Next}
-use Rattle.axis.specs.Axis.{rulesOn, Ready, inForceOn}
+use Rattle.axis.specs.Axis.{Ready, inForceOn}
 use Rattle.axis.specs.Reading.{readRaw}
-use Rattle.axis.proofs.AxisLaws.{ready-of, outside-of, stands-none}
+use Rattle.axis.proofs.AxisLaws.{ready-of, outside-of, limits-of, stands-none}
 use Rattle.link.specs.declared.Link.{Link}
+use Rattle.link.specs.declared.Reaction.{Reaction}
 use Rattle.link.specs.Class2 as Link2
 use Rattle.link.specs.Class4 as Link4
+use Rattle.link.specs.Reaction.{reaction, Possible}
+use Rattle.link.proofs.Possible.{possible}
 use Rattle.cyclic.specs.declared.Cycled.{Cycled}
+use Rattle.cyclic.specs.declared.standing.Standing.{Standing}
 use Rattle.cyclic.specs.Raw.{faultyAt, takenAt}
+use Rattle.cyclic.specs.Preset.{presetBy, standing}
 use Rattle.cyclic.specs.Class2 as Class2
 use Rattle.cyclic.specs.Class4 as Class4
-use Rattle.cyclic.specs.Cycle.{four, fits, cycleRefusal, linkAfter, axisAfter, inputOf, done, refused, cycle, cycleInput}
-use Rattle.cyclic.proofs.ReadyLaws.{read-ready, after-same}
+use Rattle.cyclic.specs.Cycle.{four, fits, cycleRefusal, wordBy, inputBy, linkAfter, axisAfter, inputOf, linkLeft, inputLeft, done, refused, cycle, cycleInput}
+use Rattle.cyclic.proofs.CycleKept.{read-ready, after-same, after-is}
+use Rattle.cyclic.proofs.Class4Laws.{at-position}
 
 -- ---- the class, and the lengths by it
-pub class-is : (p : Parameters) (g : Fields) (value : Bool) → g .four ≡ value → g ≡ fieldsOf p → four p ≡ value
-class-is p g value t e = ap (λ (h : Fields). h .four) (sym e) ∙ t
+class-is : (p : Parameters) (g : Fields) → g ≡ fieldsOf p → four p ≡ g .four
+class-is p g e = ap (λ (h : Fields). h .four) (sym e)
 
 module _ (class : Bool) (output input : ℕ) where
   pub fits-four : class ≡ true → (eqb output 4 && eqb input 12) ≡ fits class output input
@@ -57,15 +67,8 @@ module _ (class : Bool) (output input : ℕ) where
     pub output-four : output ≡ 4
     output-four = lengths .0
 
-    pub input-twelve : class ≡ true → input ≡ 12
-    input-twelve t = rw t at (lengths .1)
-
-    pub input-four : class ≡ false → input ≡ 4
-    input-four t = rw t at (lengths .1)
-
--- four octets are a number of 32 bits
-word-is : (output : List ℕ) → Octets output → length output ≡ 4 → bigEndian output % 2 ^ 32 ≡ bigEndian output
-word-is output os long = N.mod-eq-of-lt (rw long at (bigEndian-lt output os))
+    pub input-long : input ≡ cond class 12 4
+    input-long = lengths .1
 
 -- ---- the answer and the input, by the number of the refusal
 module _ (a : Axis) (k : Link) (raw : ℕ) (output input : List ℕ) (n : ℕ) where
@@ -96,7 +99,7 @@ module _ (a : Axis) (f : InForce) (r : Ready a f) (k : Link) (raw : ℕ) (output
   module _ (g : Fields) (b : Bool) (t : not b ≡ true) (b-is : b ≡ fits (g .four) (length output) (length input)) (g-is : g ≡ fieldsOf (a .parameters)) where
     wrong : cycleRefusal a output input ≡ 13
     unfolding cycleRefusal
-    wrong = rw (stands-none a f r, class-is (a .parameters) g (g .four) refl g-is, ← b-is, t)
+    wrong = rw (stands-none a f r, class-is (a .parameters) g g-is, ← b-is, t)
 
     pub wrong-answer : _≡_ {A = Cycled} (record { axis = a; link = k; refusal = 13 }) (cycle a k raw output input)
     wrong-answer = refused-answer a k raw output input 13 (λ z. omega arith) wrong
@@ -104,90 +107,84 @@ module _ (a : Axis) (f : InForce) (r : Ready a f) (k : Link) (raw : ℕ) (output
     pub wrong-input : input ≡ cycleInput a k raw output input
     wrong-input = refused-input a k raw output input 13 (λ z. omega arith) wrong
 
-  same-class : (class : Bool) → four (a .parameters) ≡ class → four (axisAfter a k raw output .parameters) ≡ class
-  same-class class is = rw (after-same a k raw output .1) is
+-- ---- by the class: four octets are a number of 32 bits
+pub word-two : (class : Bool) (output : List ℕ) (w : ℕ) → class ≡ false → w ≡ bigEndian output % 2 ^ 32 → Octets output → length output ≡ 4 → w ≡ wordBy class output
+word-two class output w t w-is os long = rw t (w-is ∙ N.mod-eq-of-lt (rw long at (bigEndian-lt output os)))
 
-  -- ---- a class: b is the axis and j the link that it leaves
-  module _ (x : Next) (b : Axis) (j : Link) (w : ℕ) (l : List ℕ) (x-is : x ≡ readRaw a raw) (out-long : length output ≡ 4) where
-    faulty-is : not (eqb (x .refusal) 0) ≡ faultyAt a raw
-    unfolding faultyAt
-    faulty-is = rw x-is
+link-by : (class : Bool) (f : InForce) (k : Link) (faulty : Bool) (output : List ℕ) (stored : ℤ)
+    → reaction class f k faulty (wordBy class output) stored .link ≡ cond class (Link4.link f k faulty (Class4.counted output)) (Link2.link k faulty (Class2.wordOf output))
+link-by true f k faulty output stored = refl
+link-by false f k faulty output stored = refl
+
+input-by : (class : Bool) (k : Link) (a : Axis) (output : List ℕ)
+    → inputBy class k (wordBy class output) a ≡ cond class (Class4.input k (Class4.counted output) a) (Class2.input a)
+input-by true k a output = refl
+input-by false k a output = refl
+
+pub input-two : (class : Bool) (k : Link) (w : ℕ) (b : Standing) (l i : List ℕ) → class ≡ false → b ≡ standing (b .axis) → length i ≡ cond class 12 4 → l ≡ octets (length i) (b .position .0)
+    → l ≡ inputBy class k w (b .axis)
+unfolding Class2.input
+input-two class k w b l i t b-is long l-is = l-is ∙ rw (long, t, at-position b b-is)
+
+-- ---- a cycle that is run: x is the answer to its raw number, w its word, q what it makes of it, and b the axis that it leaves and where that stands
+module _ (a : Axis) (f : InForce) (r : Ready a f) (k : Link) (raw : ℕ) (output : List ℕ) (g : Fields) (g-is : g ≡ fieldsOf (a .parameters)) (x : Next) (x-is : x ≡ readRaw a raw) (w : ℕ) (w-is : w ≡ wordBy (g .four) output)
+    (q : Reaction) (q-is : q ≡ reaction (g .four) f k (not (eqb (x .refusal) 0)) w (toZ w64 (ofZ w64 (x .axis .stored)))) where
+  at : Ready (x .axis) f
+  at = read-ready a f r raw x x-is
+
+  stored-lt : natAbs (x .axis .stored) < f .span .0
+  stored-lt = rw (at .is) (limits-of (x .axis) (at .stands) .stored)
+
+  reads-back : q ≡ reaction (g .four) f k (not (eqb (x .refusal) 0)) w (x .axis .stored)
+  reads-back = q-is ∙ rw (reads (fits-abs {w = w64} (x .axis .stored) (omega (arith, stored-lt, at .travel .sound .span-most))))
+
+  pub preset-possible : Possible f (q .preset)
+  preset-possible = rw reads-back (possible (g .four) f k (not (eqb (x .refusal) 0)) w (x .axis .stored) stored-lt)
+
+  module _ (b : Standing) (b-is : b ≡ standing (presetBy (x .axis) (q .preset))) where
+    reaction-is : q ≡ reaction (four (a .parameters)) f k (faultyAt a raw) (wordBy (four (a .parameters)) output) (takenAt a raw .stored)
+    unfolding faultyAt takenAt
+    reaction-is = reads-back ∙ rw (w-is, g-is, x-is)
 
     taken-is : x .axis ≡ takenAt a raw
     unfolding takenAt
     taken-is = rw x-is
 
-    module _ (none : cycleRefusal a output input ≡ 0) (b-is : b ≡ axisAfter a k raw output) (j-is : j ≡ linkAfter (rulesOn a) (a .parameters) k (faultyAt a raw) output) where
-      done-answer : done b j ≡ cycle a k raw output input
-      unfolding cycle
-      done-answer = rw (none, b-is, j-is)
+    axis-is : b .axis ≡ axisAfter a k raw output
+    axis-is = rw (b-is, after-is a k raw output, reaction-is, ← taken-is, ← at .is)
 
-      done-input : l ≡ inputOf j b output → l ≡ cycleInput a k raw output input
-      unfolding cycleInput
-      done-input l-is = l-is ∙ rw (none, b-is, j-is)
+    link-is : q .link ≡ linkLeft a k raw output
+    unfolding linkAfter
+    link-is = rw (reaction-is, ← r .is) (link-by (four (a .parameters)) f k (faultyAt a raw) output _)
 
-    -- class 4
-    module _ (is : four (a .parameters) ≡ true) (in-long : length input ≡ 12) (w-is : w ≡ Class4.counted output) (b-is : b ≡ Class4.axis (x .axis) k (not (eqb (x .refusal) 0)) w)
-        (j-is : j ≡ Link4.link f k (not (eqb (x .refusal) 0)) w) where
-      none-four : cycleRefusal a output input ≡ 0
-      unfolding cycleRefusal fits
-      none-four = rw (stands-none a f r, is, out-long, in-long)
+    pub left-fields : g ≡ fieldsOf (b .axis .parameters)
+    left-fields = rw (axis-is, after-same a k raw output .1) g-is
 
-      axis-four : b ≡ axisAfter a k raw output
-      unfolding axisAfter
-      axis-four = b-is ∙ rw (is, taken-is, faulty-is, w-is)
+    pub left-standing : b ≡ standing (b .axis)
+    left-standing = rw b-is
 
-      link-four : j ≡ linkAfter (rulesOn a) (a .parameters) k (faultyAt a raw) output
-      unfolding linkAfter
-      link-four = j-is ∙ rw (is, r .is, faulty-is, w-is)
+    pub done-answer : _≡_ {A = Cycled} (record { axis = b .axis; link = q .link; refusal = 0 }) (done (axisAfter a k raw output) (linkLeft a k raw output))
+    done-answer = rw (axis-is, link-is)
 
-      pub four-answer : _≡_ {A = Cycled} (record { axis = b; link = j; refusal = 0 }) (cycle a k raw output input)
-      four-answer = done-answer none-four axis-four link-four
+    pub done-input : (l : List ℕ) → l ≡ inputBy (g .four) (q .link) w (b .axis)
+        → l ≡ inputLeft a k raw output
+    unfolding inputOf
+    done-input l l-is = l-is ∙ rw (w-is, link-is, ← axis-is, class-is (b .axis .parameters) g left-fields) (input-by (g .four) _ _ output)
 
-      pub four-input : l ≡ Class4.input j w b → l ≡ cycleInput a k raw output input
-      unfolding inputOf
-      four-input l-is = done-input none-four axis-four link-four (l-is ∙ rw (axis-four, same-class true is, w-is))
+-- ---- and so the whole
+module _ (a : Axis) (f : InForce) (r : Ready a f) (k : Link) (raw : ℕ) (output input : List ℕ) (g : Fields) (g-is : g ≡ fieldsOf (a .parameters)) (b : Bool)
+    (t : not b ≡ false) (b-is : b ≡ fits (g .four) (length output) (length input)) where
+  none : cycleRefusal a output input ≡ 0
+  unfolding cycleRefusal
+  none = rw (stands-none a f r, class-is (a .parameters) g g-is, ← b-is, t)
 
-    -- class 2
-    module _ (is : four (a .parameters) ≡ false) (in-long : length input ≡ 4) (os : Octets output) (w-is : w ≡ bigEndian output % 2 ^ 32)
-        (b-is : b ≡ Class2.axis (x .axis) k (not (eqb (x .refusal) 0)) w) (j-is : j ≡ Link2.link k (not (eqb (x .refusal) 0)) w) where
-      none-two : cycleRefusal a output input ≡ 0
-      unfolding cycleRefusal fits
-      none-two = rw (stands-none a f r, is, out-long, in-long)
+  pub run-answer : (x : Cycled) → x ≡ done (axisAfter a k raw output) (linkLeft a k raw output) → x ≡ cycle a k raw output input
+  unfolding cycle
+  run-answer x x-is = x-is ∙ rw none
 
-      word-two : w ≡ Class2.wordOf output
-      word-two = w-is ∙ word-is output os out-long
+  pub run-input : (l : List ℕ) → l ≡ inputLeft a k raw output
+      → l ≡ cycleInput a k raw output input
+  unfolding cycleInput
+  run-input l l-is = l-is ∙ rw none
 
-      axis-two : b ≡ axisAfter a k raw output
-      unfolding axisAfter
-      axis-two = b-is ∙ rw (is, taken-is, faulty-is, word-two)
-
-      link-two : j ≡ linkAfter (rulesOn a) (a .parameters) k (faultyAt a raw) output
-      unfolding linkAfter
-      link-two = j-is ∙ rw (is, faulty-is, word-two)
-
-      pub two-answer : _≡_ {A = Cycled} (record { axis = b; link = j; refusal = 0 }) (cycle a k raw output input)
-      two-answer = done-answer none-two axis-two link-two
-
-      pub two-input : l ≡ Class2.input b → l ≡ cycleInput a k raw output input
-      unfolding inputOf
-      two-input l-is = done-input none-two axis-two link-two (l-is ∙ rw (axis-two, same-class false is))
-
-pub ruleset cycles = (
-  class-is,
-  ready-of,
-  read-ready,
-  fits-four,
-  fits-two,
-  output-four,
-  input-twelve,
-  input-four,
-  outside-answer,
-  outside-input,
-  wrong-answer,
-  wrong-input,
-  four-answer,
-  four-input,
-  two-answer,
-  two-input,
-)
+pub ruleset cycles = (ready-of, fits-four, fits-two, output-four, input-long, outside-answer, outside-input, wrong-answer, wrong-input, run-answer, run-input)

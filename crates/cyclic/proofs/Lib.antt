@@ -1,6 +1,5 @@
 pub mod CycleKept
-pub mod ReadyLaws
-pub mod Class2Laws
+pub mod StandingLaws
 pub mod Class4Laws
 pub mod CycleLaws
 pub mod Acknowledging

@@ -1,15 +1,14 @@
 -- The cycle of class 2: 4 octets out, 4 in (document 01, "One cycle", its second paragraph).
 -- Assumes nothing.
 use Prim.Native.Nat.{ℕ}
-use mathlib.Core.Bool.{Bool, false, cond}
+use mathlib.Core.Bool.{Bool}
 use mathlib.Core.List.{List}
-use lib.IntN.{pos}
 use Rattle.integer.specs.Octets.{bigEndian, octets}
 use Rattle.axis.specs.declared.Axis.{Axis}
 use Rattle.axis.specs.Axis.{rulesOn, positionOf}
-use Rattle.axis.specs.Preset.{presetted}
 use Rattle.link.specs.declared.Link.{Link}
-use Rattle.link.specs.Class2.{value, made}
+use Rattle.link.specs.Class2.{preset}
+use Rattle.cyclic.specs.Preset.{presetBy}
 
 -- the output word
 abbrev pub wordOf : List ℕ → ℕ
@@ -17,7 +16,7 @@ wordOf output = bigEndian output
 
 -- the axis with the raw number taken: with the preset, if one is made
 unfoldable pub axis : Axis → Link → Bool → ℕ → Axis
-axis a k faulty word = cond (made (rulesOn a) k faulty word) (presetted a (pos (value word)) false) a
+axis a k faulty word = presetBy a (preset (rulesOn a) k faulty word)
 
 -- the input is the position
 unfoldable pub input : Axis → List ℕ

@@ -9,9 +9,9 @@ use Rattle.integer.specs.Octets.{part, bigEndian, octets}
 use Rattle.encoder.specs.Parameters.{fieldsOf}
 use Rattle.axis.specs.declared.Axis.{Axis}
 use Rattle.axis.specs.Axis.{rulesOn, unshiftedOf, positionOf}
-use Rattle.axis.specs.Preset.{presetted}
 use Rattle.link.specs.declared.Link.{Link}
-use Rattle.link.specs.Class4.{relative, made, zsw}
+use Rattle.link.specs.Class4.{preset, zsw}
+use Rattle.cyclic.specs.Preset.{presetBy}
 
 -- ---- the control words
 abbrev pub stw2 : List ℕ → ℕ
@@ -26,7 +26,7 @@ counted output = cond (bit 10 (stw2 output)) (stw output) 0
 
 -- ---- the axis with the raw number taken: with the preset of the held preset value, relative by bit 11, if one is made
 unfoldable pub axis : Axis → Link → Bool → ℕ → Axis
-axis a k faulty word = cond (made (rulesOn a) k faulty word) (presetted a (a .stored) (relative word)) a
+axis a k faulty word = presetBy a (preset (rulesOn a) k faulty word (a .stored))
 
 -- ---- the input, filled after any preset
 -- ZSW2_ENC

@@ -32,6 +32,13 @@ fits class output input = eqb output 4 && eqb input (cond class 12 4)
 unfoldable pub cycleRefusal : Axis → List ℕ → List ℕ → ℕ
 cycleRefusal a output input = axisRefusal a before when (not (fits (four (a .parameters)) (length output) (length input))) wrongBuffer
 
+-- the control word and the input, by the class
+abbrev pub wordBy : Bool → List ℕ → ℕ
+wordBy class output = cond class (Class4.counted output) (Class2.wordOf output)
+
+abbrev pub inputBy : Bool → Link → ℕ → Axis → List ℕ
+inputBy class k word a = cond class (Class4.input k word a) (Class2.input a)
+
 -- the link that a cycle leaves, by what is in force
 unfoldable pub linkAfter : InForce → Parameters → Link → Bool → List ℕ → Link
 linkAfter f p k faulty output = cond (four p) (Link4.link f k faulty (Class4.counted output)) (Link2.link k faulty (Class2.wordOf output))
@@ -46,6 +53,13 @@ axisAfter a k raw output =
 unfoldable pub inputOf : Link → Axis → List ℕ → List ℕ
 inputOf k a output = cond (four (a .parameters)) (Class4.input k (Class4.counted output) a) (Class2.input a)
 
+-- the link and the input that a cycle with this raw number leaves
+abbrev pub linkLeft : Axis → Link → ℕ → List ℕ → Link
+linkLeft a k raw output = linkAfter (rulesOn a) (a .parameters) k (faultyAt a raw) output
+
+abbrev pub inputLeft : Axis → Link → ℕ → List ℕ → List ℕ
+inputLeft a k raw output = inputOf (linkLeft a k raw output) (axisAfter a k raw output) output
+
 -- the answer by the number of its refusal: refused, axis and link are kept
 abbrev pub done : Axis → Link → Cycled
 done a k = record { axis = a; link = k; refusal = 0 }
@@ -57,11 +71,8 @@ abbrev pub cycled : Axis → Link → Axis → Link → ℕ → Cycled
 cycled a k b j n = answer (refused a k) (done b j) n
 
 unfoldable pub cycle : Axis → Link → ℕ → List ℕ → List ℕ → Cycled
-cycle a k raw output input =
-    cycled a k (axisAfter a k raw output) (linkAfter (rulesOn a) (a .parameters) k (faultyAt a raw) output) (cycleRefusal a output input)
+cycle a k raw output input = cycled a k (axisAfter a k raw output) (linkLeft a k raw output) (cycleRefusal a output input)
 
 -- the lent input octets: kept where the cycle is refused
 unfoldable pub cycleInput : Axis → Link → ℕ → List ℕ → List ℕ → List ℕ
-cycleInput a k raw output input =
-    answer (λ _. input) (inputOf (linkAfter (rulesOn a) (a .parameters) k (faultyAt a raw) output) (axisAfter a k raw output) output)
-    (cycleRefusal a output input)
+cycleInput a k raw output input = answer (λ _. input) (inputLeft a k raw output) (cycleRefusal a output input)

@@ -1,15 +1,26 @@
 // The cyclic exchange with the control (document 01, "One cycle"): an axis runs the cycle of the class that its parameters came from.
-mod class2;
 mod class4;
+mod standing;
 
 ghost use mathlib.Core.Path.{_≡_};
+ghost use mathlib.Core.Bool.{cond};
+ghost use lib.ListN.{length};
+ghost use Rattle.encoder.specs.Parameters.{fieldsOf};
 ghost use Rattle.axis.specs.Axis.{Ready};
-ghost use Rattle.cyclic.specs.Cycle.{fits, cycle, cycleInput};
+ghost use Rattle.cyclic.specs.Preset.{standing};
+ghost use Rattle.cyclic.specs.Cycle.{fits, wordBy, inputBy, axisAfter, linkLeft, inputLeft, done, cycle, cycleInput};
 use axis::Axis;
 use encoder::effect::Effect;
 use encoder::effect::InForce;
+use encoder::parameters::Fields;
 use encoder::refusal;
 use link::Link;
+use link::react;
+use octets::number;
+use octets::put_number;
+use standing::Standing;
+use standing::preset;
+use standing::take;
 
 // The next axis and the next link, with the number of the refusal beside them.
 pub struct Cycled {
@@ -20,7 +31,7 @@ pub struct Cycled {
 }
 
 // One cycle: takes the raw number, does what the output octets ask for, and fills the input octets. A raw number that would be refused makes
-// the cycle faulty.
+// the cycle faulty. What is in force is worked out once, here.
 pub fn cycle(axis: Axis, link: Link, raw: u32, output: &[u8], input: &mut [u8]) -> Cycled
     ensures { λ r. ⌜ (r ≡ cycle axis link raw (now (output .entry)) (now (input .entry)))
         × (now (input .exit) ≡ cycleInput axis link raw (now (output .entry)) (now (input .entry))) ⌝ }
@@ -50,11 +61,7 @@ fn run(axis: Axis, link: Link, rules: InForce, raw: u32, output: &[u8], input: &
             refusal: refusal::BUFFER,
         };
     }
-    if fields.four {
-        class4::run(axis, link, rules, raw, output, input)
-    } else {
-        class2::run(axis, link, rules, raw, output, input)
-    }
+    exchange(fields, axis, link, rules, raw, output, input)
 }
 
 // 4 octets out; 4 in, or 12 in telegram 81.
@@ -65,5 +72,59 @@ fn fits(four: bool, output: usize, input: usize) -> bool
         (output == 4) & (input == 12)
     } else {
         (output == 4) & (input == 4)
+    }
+}
+
+// The same, with buffers of the lengths of the class.
+fn exchange(
+    fields: Fields,
+    axis: Axis,
+    link: Link,
+    rules: InForce,
+    raw: u32,
+    output: &[u8],
+    input: &mut [u8],
+) -> Cycled
+    requires { ⌜ Ready axis rules × (fields ≡ fieldsOf (axis .parameters)) × (length (now output) ≡ 4) × (length (now input) ≡ cond (fields .four) 12 4) ⌝ }
+    ensures { λ r. ⌜ (r ≡ done (axisAfter axis link raw (now (output .entry))) (linkLeft axis link raw (now (output .entry))))
+        × (now (input .exit) ≡ inputLeft axis link raw (now (output .entry))) ⌝ }
+{
+    let next = take(axis, rules, raw);
+    let moved = next.axis;
+    let faulty = next.refusal != 0;
+    let word = word_of(fields.four, output);
+    let reaction = react(fields.four, link, rules, faulty, word, moved.stored);
+    let kept = reaction.link;
+    let asked = reaction.preset;
+    let after = preset(moved, rules, asked);
+    fill(fields, after, kept, word, input);
+    let left = after.axis;
+    Cycled {
+        axis: left,
+        link: kept,
+        refusal: 0,
+    }
+}
+
+// The control word, by the class.
+fn word_of(four: bool, output: &[u8]) -> u32
+    requires { ⌜ length (now output) ≡ 4 ⌝ }
+    ensures { λ r. ⌜ r ≡ wordBy four (now (output .entry)) ⌝ }
+{
+    if four {
+        return class4::counted(output);
+    }
+    number(output)
+}
+
+// The input, by the class: that of class 2 is the position.
+fn fill(fields: Fields, after: Standing, link: Link, word: u32, input: &mut [u8])
+    requires { ⌜ (fields ≡ fieldsOf (after .axis .parameters)) × (after ≡ standing (after .axis)) × (length (now input) ≡ cond (fields .four) 12 4) ⌝ }
+    ensures { λ _. ⌜ now (input .exit) ≡ inputBy (fields .four) link word (after .axis) ⌝ }
+{
+    if fields.four {
+        class4::fill(fields, after, link, word, input);
+    } else {
+        put_number(input, after.position.0);
     }
 }

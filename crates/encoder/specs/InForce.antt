@@ -38,7 +38,7 @@ rulesOf n f =
 unfoldable pub inForce : Nameplate → Parameters → Effect
 inForce n p = answer Refused (Taken (rulesOf n (fieldsOf p))) (refusalOn n p)
 
--- the limits of what can be in force, by those of a nameplate and the parameters taken on it
+-- bounds that keep every sum of the axis within its type. What a plate and parameters put in force is within them, and more is: R = 1, or M above R
 unfoldable pub rulesFit : InForce → Bool
 rulesFit f =
     leb 1 (f .steps .0)

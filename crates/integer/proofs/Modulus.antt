@@ -9,16 +9,16 @@ use lib.Arith.{digits-mod}
 use Rattle.integer.specs.Modulus.{_modulo_}
 use Rattle.integer.proofs.Signed.{above, below}
 
-pub modulo-lt : (z : ℤ) {n : ℕ} → 0 < n → z modulo n < n
-unfolding _modulo_
-modulo-lt (pos a) h = N.mod-lt a h
-modulo-lt (negsuc a) h = omega arith
-
 -- the multiples by which z and z modulo n differ
 pub modulo-has : (z : ℤ) {n : ℕ} → 0 < n → (p : ℕ) × (q : ℕ) × (above z + p * n ≡ (z modulo n + below z) + q * n)
 unfolding _modulo_
 modulo-has (pos a) {n} h = (0, a / n, omega (arith, N.div-add-mod' a n, N.zero-mul n))
 modulo-has (negsuc a) {n} h = (suc (a / n), 0, omega (arith, N.div-add-mod' a n, N.zero-mul n, N.suc-mul (a / n) n, N.mod-lt a h))
+
+pub modulo-lt : (z : ℤ) {n : ℕ} → 0 < n → z modulo n < n
+unfolding _modulo_
+modulo-lt (pos a) h = N.mod-lt a h
+modulo-lt (negsuc a) h = omega arith
 
 pub modulo-is : (z : ℤ) {n r : ℕ} (p q : ℕ) → r < n → above z + p * n ≡ (r + below z) + q * n → z modulo n ≡ r
 modulo-is z {n} {r} p q h e =

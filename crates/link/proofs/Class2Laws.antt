@@ -1,17 +1,21 @@
--- Class 2: each way out, and what a preset that is made tells. The value is a mask, which is a remainder.
+-- Class 2: what a cycle makes of its word, and what a preset that is made tells. The value is a mask, which is a remainder.
 -- Assumes nothing.
 use mathlib.Core.Path.{_≡_}
-use mathlib.Core.Bool.{Bool, true, not, _&&_}
+use mathlib.Core.Bool.{Bool, true, false, not, _&&_}
 use Prim.Native.Nat.{ℕ, _^_, _<_}
 use native.Mathlib.Omega.{arith}
 use lib.Dec.{ltb}
 use lib.Bits.{bitAnd, and-mask, and-le-r}
 use borrow.Author.Tests.{ltb-true}
+use mir.Syntax.{w64}
+use mir.Val.{toZ}
+use mir.ValLaws.{toZ-pos}
 use Rattle.integer.specs.Bits.{bit}
 use Rattle.encoder.specs.declared.effect.InForce.{InForce}
 use Rattle.encoder.proofs.PlateLaws.{and-split}
 use Rattle.link.specs.declared.Link.{Link}
-use Rattle.link.specs.Class2.{asked, value, made, link}
+use Rattle.link.specs.declared.Reaction.{Reaction}
+use Rattle.link.specs.Class2.{asked, value, made, link, reaction}
 
 pub value-is : (w : ℕ) → bitAnd w 0x7fffffff ≡ value w
 value-is w = and-mask w 31
@@ -20,16 +24,15 @@ pub value-lt : (w : ℕ) → bitAnd w 0x7fffffff < 2 ^ 31
 value-lt w = omega (arith, and-le-r w 0x7fffffff)
 
 module _ (f : InForce) (k : Link) (faulty : Bool) (w : ℕ) where
-  pub made-is : (b : Bool) (v : ℕ) → b ≡ bit 31 w → v ≡ value w
-      → (not (k .requested) && b && f .enabled && not faulty && ltb v (f .span .0)) ≡ made f k faulty w
-  unfolding made
-  made-is b v b-is v-is = rw (b-is, v-is)
-
-  pub linked-is : (b : Bool) → b ≡ bit 31 w
-      → _≡_ {A = Link} (record { faulty = faulty; requested = b; error = k .error; acknowledged = k .acknowledged; executed = k .executed })
-      (link k faulty w)
-  unfolding link
-  linked-is b b-is = rw b-is
+  pub reaction-is : (asks : Bool) (v : ℕ) → asks ≡ bit 31 w → v ≡ value w → v < 2 ^ 31
+      → _≡_ {A = Reaction}
+      (record {
+        link = record { faulty = faulty; requested = asks; error = k .error; acknowledged = k .acknowledged; executed = k .executed };
+        preset = record { made = not (k .requested) && asks && f .enabled && not faulty && ltb v (f .span .0); value = toZ w64 v; relative = false };
+      })
+      (reaction f k faulty w)
+  unfolding made link
+  reaction-is asks v asks-is v-is lt = rw (toZ-pos w64 v (omega arith), asks-is, v-is)
 
   -- ---- a preset that is made: the class is on, and the value is below L
   module _ (e : made f k faulty w ≡ true) where
@@ -46,4 +49,4 @@ module _ (f : InForce) (k : Link) (faulty : Bool) (w : ℕ) where
     pub made-below : value w < f .span .0
     made-below = ltb-true (value w) (f .span .0) (tests .1)
 
-pub ruleset two = (value-is, value-lt, made-is, linked-is)
+pub ruleset values = (value-is, value-lt)

@@ -1,40 +1,36 @@
--- Class 4: each way out, and what a preset that is made tells. The bits of the status word do not overlap, so that their or is their sum.
+-- Class 4: what a cycle makes of its word, what a preset that is made tells, and the status word. The bits of the status word do not overlap, so that their or is their sum.
 -- Assumes nothing.
 use mathlib.Core.Path.{_≡_, _∙_}
-use mathlib.Core.Bool.{Bool, true, false, not, _&&_, _||_}
+use mathlib.Core.Bool.{Bool, true, not, _&&_, _||_}
 use Prim.Native.Nat.{ℕ, _+_, _*_, _/_, _%_, _^_, _<_}
 use native.Mathlib.Omega.{arith}
 use native.Mathlib.Nat as N
 use lib.Bits.{bitOr, or-shifted}
-use mir.Val.{boolByte}
+use lib.IntN.{ℤ}
+use mir.Syntax.{w64}
+use mir.Val.{SFits, toZ, ofZ, boolByte}
+use Rattle.integer.proofs.Size.{reads}
 use Rattle.integer.proofs.Bits.{flag-lt, at-is}
-use Rattle.integer.specs.Bits.{bit, at}
+use Rattle.integer.specs.Bits.{bit}
 use Rattle.encoder.specs.declared.effect.InForce.{InForce}
 use Rattle.encoder.proofs.PlateLaws.{and-split}
 use Rattle.link.specs.declared.Link.{Link}
-use Rattle.link.specs.Class4.{asked, held, made, link, zsw}
-
--- ---- the error
-module _ (k : Link) (faulty : Bool) (w : ℕ) (parked acknowledges : Bool) (p-is : parked ≡ bit 14 w) (a-is : acknowledges ≡ bit 15 w) where
-  pub held-acknowledged : (k .acknowledged && not acknowledges) ≡ true → ((k .error || (faulty && not parked)) && faulty) ≡ held k faulty w
-  unfolding held
-  held-acknowledged t = rw (← a-is, t, p-is)
-
-  pub held-on : (k .acknowledged && not acknowledges) ≡ false → (k .error || (faulty && not parked)) ≡ held k faulty w
-  unfolding held
-  held-on t = rw (← a-is, t, p-is)
+use Rattle.link.specs.declared.Reaction.{Reaction}
+use Rattle.link.specs.Class4.{asked, heldBy, held, made, link, reaction, zsw}
 
 module _ (f : InForce) (k : Link) (faulty : Bool) (w : ℕ) where
-  -- ---- the link
-  pub made-is : (asks error : Bool) → asks ≡ bit 12 w → error ≡ held k faulty w
-      → (not (k .requested) && asks && f .enabled && not error && not faulty) ≡ made f k faulty w
-  unfolding made
-  made-is asks error asks-is error-is = rw (asks-is, error-is)
-
-  pub linked-is : (asks error acknowledges m : Bool) → asks ≡ bit 12 w → error ≡ held k faulty w → acknowledges ≡ bit 15 w → m ≡ made f k faulty w
-      → _≡_ {A = Link} (record { faulty = faulty; requested = asks; error = error; acknowledged = error && acknowledges; executed = asks && (m || k .executed) }) (link f k faulty w)
-  unfolding link
-  linked-is asks error acknowledges m asks-is error-is a-is m-is = rw (asks-is, error-is, a-is, m-is)
+  pub reaction-is : (acknowledge asks park error relative : Bool) (s : ℤ) → acknowledge ≡ bit 15 w → asks ≡ bit 12 w → park ≡ bit 14 w
+      → error ≡ heldBy k faulty park acknowledge → relative ≡ bit 11 w → SFits w64 s
+      → let m = not (k .requested) && asks && f .enabled && not error && not faulty in
+      _≡_ {A = Reaction}
+      (record {
+        link = record { faulty = faulty; requested = asks; error = error; acknowledged = error && acknowledge; executed = asks && (m || k .executed) };
+        preset = record { made = m; value = toZ w64 (ofZ w64 s); relative = relative };
+      })
+      (reaction f k faulty w s)
+  unfolding held made link
+  reaction-is acknowledge asks park error relative s a-is asks-is p-is error-is relative-is fits =
+      rw (error-is, a-is, asks-is, p-is, relative-is, reads fits)
 
   -- ---- a preset that is made: the class is on
   pub made-on : made f k faulty w ≡ true → f .enabled ≡ true
@@ -78,5 +74,3 @@ unfolding zsw
 zsw-is k w parked p-is =
     or-word _ _ _ _ _ (flag-lt (k .error)) (flag-lt parked) (flag-lt (not (k .error))) (flag-lt (k .executed)) (flag-lt (k .acknowledged))
     ∙ rw (← p-is, at-is (k .error) 15, at-is parked 14, at-is (not (k .error)) 13, at-is (k .executed) 12, at-is (k .acknowledged) 11)
-
-pub ruleset four = (held-acknowledged, held-on, made-is, linked-is, zsw-is)

@@ -1,3 +1,4 @@
 pub mod Class2Laws
 pub mod Class4Laws
 pub mod Acknowledging
+pub mod Possible

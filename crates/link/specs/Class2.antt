@@ -1,11 +1,14 @@
 -- What a cycle of class 2 makes of its output word (document 01, "One cycle", its second paragraph).
 -- Assumes nothing.
 use Prim.Native.Nat.{ℕ, _%_, _^_}
-use mathlib.Core.Bool.{Bool, not, _&&_}
+use mathlib.Core.Bool.{Bool, false, not, _&&_}
 use lib.Dec.{ltb}
+use lib.IntN.{pos}
 use Rattle.integer.specs.Bits.{bit}
 use Rattle.encoder.specs.declared.effect.InForce.{InForce}
 use Rattle.link.specs.declared.Link.{Link}
+use Rattle.link.specs.declared.Preset.{Preset}
+use Rattle.link.specs.declared.Reaction.{Reaction}
 
 -- bit 31 of the output asks for an absolute preset ..
 abbrev pub asked : ℕ → Bool
@@ -24,3 +27,10 @@ made f k faulty word = not (k .requested) && asked word && f .enabled && not fau
 unfoldable pub link : Link → Bool → ℕ → Link
 link k faulty word =
     record { faulty = faulty; requested = asked word; error = k .error; acknowledged = k .acknowledged; executed = k .executed }
+
+-- the preset, and both
+abbrev pub preset : InForce → Link → Bool → ℕ → Preset
+preset f k faulty word = record { made = made f k faulty word; value = pos (value word); relative = false }
+
+abbrev pub reaction : InForce → Link → Bool → ℕ → Reaction
+reaction f k faulty word = record { link = link k faulty word; preset = preset f k faulty word }

@@ -2,9 +2,12 @@
 -- Assumes nothing.
 use Prim.Native.Nat.{ℕ, _+_}
 use mathlib.Core.Bool.{Bool, cond, not, _&&_, _||_}
+use lib.IntN.{ℤ}
 use Rattle.integer.specs.Bits.{bit, at}
 use Rattle.encoder.specs.declared.effect.InForce.{InForce}
 use Rattle.link.specs.declared.Link.{Link}
+use Rattle.link.specs.declared.Preset.{Preset}
+use Rattle.link.specs.declared.Reaction.{Reaction}
 
 -- ---- the bits of G1_STW; bit 13 is ignored
 abbrev pub acknowledges : ℕ → Bool
@@ -21,12 +24,15 @@ relative word = bit 11 word
 
 -- ---- in order
 -- a faulty cycle that is not parked holds the error
-abbrev pub arises : Link → Bool → ℕ → Bool
-arises k faulty word = k .error || (faulty && not (parked word))
+abbrev pub arises : Link → Bool → Bool → Bool
+arises k faulty park = k .error || (faulty && not park)
 
 -- if acknowledge was seen last cycle and bit 15 is now 0, the error stays held only if this cycle is faulty
+abbrev pub heldBy : Link → Bool → Bool → Bool → Bool
+heldBy k faulty park acknowledge = cond (k .acknowledged && not acknowledge) (arises k faulty park && faulty) (arises k faulty park)
+
 unfoldable pub held : Link → Bool → ℕ → Bool
-held k faulty word = cond (k .acknowledged && not (acknowledges word)) (arises k faulty word && faulty) (arises k faulty word)
+held k faulty word = heldBy k faulty (parked word) (acknowledges word)
 
 -- acknowledge seen = error held and bit 15
 abbrev pub seen : Link → Bool → ℕ → Bool
@@ -50,6 +56,13 @@ link f k faulty word =
       acknowledged = seen k faulty word;
       executed = executed f k faulty word;
     }
+
+-- the preset, of the held preset value, and both
+abbrev pub preset : InForce → Link → Bool → ℕ → ℤ → Preset
+preset f k faulty word stored = record { made = made f k faulty word; value = stored; relative = relative word }
+
+abbrev pub reaction : InForce → Link → Bool → ℕ → ℤ → Reaction
+reaction f k faulty word stored = record { link = link f k faulty word; preset = preset f k faulty word stored }
 
 -- ---- G1_ZSW, by the link that the cycle leaves; other status bits are 0
 unfoldable pub zsw : Link → ℕ → ℕ

@@ -3,6 +3,8 @@ ghost use mathlib.Core.Path.{_≡_};
 ghost use Prim.Native.Nat.{_<_, _^_};
 ghost use Rattle.link.specs.Class2 as Class2;
 use crate::Link;
+use crate::Preset;
+use crate::Reaction;
 use encoder::effect::InForce;
 use octets::bit;
 
@@ -11,25 +13,26 @@ const ASKED: u32 = 31;
 const VALUE: u32 = 0x7fff_ffff;
 
 // The value that a preset is asked for.
-pub fn value(word: u32) -> u32
+fn value(word: u32) -> u32
     ensures { λ r. ⌜ (r ≡ Class2.value word) × (r < 2 ^ 31) ⌝ }
 {
     word & VALUE
 }
 
-// A preset is made.
-pub fn made(link: Link, rules: InForce, faulty: bool, word: u32) -> bool
-    ensures { λ r. ⌜ r ≡ Class2.made rules link faulty word ⌝ }
+// The next link, and the preset.
+pub(crate) fn react(link: Link, rules: InForce, faulty: bool, word: u32) -> Reaction
+    ensures { λ r. ⌜ r ≡ Class2.reaction rules link faulty word ⌝ }
 {
-    !link.requested & bit(word, ASKED) & rules.enabled & !faulty & (value(word) < rules.span.0)
-}
-
-// The link that the cycle leaves.
-pub fn linked(link: Link, faulty: bool, word: u32) -> Link
-    ensures { λ r. ⌜ r ≡ Class2.link link faulty word ⌝ }
-{
+    let requested = bit(word, ASKED);
+    let value = value(word);
+    let made = !link.requested & requested & rules.enabled & !faulty & (value < rules.span.0);
     let mut next = link;
     next.faulty = faulty;
-    next.requested = bit(word, ASKED);
-    next
+    next.requested = requested;
+    let preset = Preset {
+        made,
+        value: value as i64,
+        relative: false,
+    };
+    Reaction { link: next, preset }
 }

@@ -2,6 +2,8 @@
 ghost use mathlib.Core.Path.{_≡_};
 ghost use Rattle.link.specs.Class4 as Class4;
 use crate::Link;
+use crate::Preset;
+use crate::Reaction;
 use encoder::effect::InForce;
 use octets::bit;
 
@@ -12,39 +14,40 @@ const PARK: u32 = 14;
 
 const PRESET: u32 = 12;
 
+const RELATIVE: u32 = 11;
+
 // An error is held: one that was, or that of a faulty cycle which is not parked, until it is acknowledged.
-fn held(link: Link, faulty: bool, word: u32) -> bool
-    ensures { λ r. ⌜ r ≡ Class4.held link faulty word ⌝ }
+fn held(link: Link, faulty: bool, parked: bool, acknowledges: bool) -> bool
+    ensures { λ r. ⌜ r ≡ Class4.heldBy link faulty parked acknowledges ⌝ }
 {
-    let arises = link.error | (faulty & !bit(word, PARK));
-    if link.acknowledged & !bit(word, ACKNOWLEDGE) {
+    let arises = link.error | (faulty & !parked);
+    if link.acknowledged & !acknowledges {
         return arises & faulty;
     }
     arises
 }
 
-// A preset is made.
-pub fn made(link: Link, rules: InForce, faulty: bool, word: u32) -> bool
-    ensures { λ r. ⌜ r ≡ Class4.made rules link faulty word ⌝ }
+// The next link, and the preset of the held preset value.
+pub(crate) fn react(link: Link, rules: InForce, faulty: bool, word: u32, stored: i64) -> Reaction
+    ensures { λ r. ⌜ r ≡ Class4.reaction rules link faulty word stored ⌝ }
 {
-    !link.requested & bit(word, PRESET) & rules.enabled & !held(link, faulty, word) & !faulty
-}
-
-// The link that the cycle leaves.
-pub fn linked(link: Link, rules: InForce, faulty: bool, word: u32) -> Link
-    ensures { λ r. ⌜ r ≡ Class4.link rules link faulty word ⌝ }
-{
+    let acknowledges = bit(word, ACKNOWLEDGE);
     let requested = bit(word, PRESET);
-    let error = held(link, faulty, word);
-    let acknowledged = error & bit(word, ACKNOWLEDGE);
-    let executed = requested & (made(link, rules, faulty, word) | link.executed);
-    Link {
+    let error = held(link, faulty, bit(word, PARK), acknowledges);
+    let made = !link.requested & requested & rules.enabled & !error & !faulty;
+    let next = Link {
         faulty,
         requested,
         error,
-        acknowledged,
-        executed,
-    }
+        acknowledged: error & acknowledges,
+        executed: requested & (made | link.executed),
+    };
+    let preset = Preset {
+        made,
+        value: stored,
+        relative: bit(word, RELATIVE),
+    };
+    Reaction { link: next, preset }
 }
 
 // G1_ZSW, by the link that the cycle leaves.

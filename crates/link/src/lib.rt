@@ -1,9 +1,11 @@
 // The link record, and what a cycle of each class makes of it and of the control word (document 01, "One cycle"). The axis has no part in it.
-pub mod class2;
+mod class2;
 pub mod class4;
 
 ghost use mathlib.Core.Path.{_≡_};
 ghost use Rattle.link.specs.Link.{quiet};
+ghost use Rattle.link.specs.Reaction.{reaction};
+use encoder::effect::InForce;
 
 // What one cycle leaves for the next. Everything is 0 at the start.
 pub struct Link {
@@ -17,6 +19,36 @@ pub struct Link {
     pub acknowledged: bool,
     // a preset was executed, and its bit is still 1
     pub executed: bool,
+}
+
+// The preset that a cycle makes, if it makes one.
+pub struct Preset {
+    pub made: bool,
+    pub value: i64,
+    pub relative: bool,
+}
+
+// What a cycle makes of its control word.
+pub struct Reaction {
+    pub link: Link,
+    pub preset: Preset,
+}
+
+// By the class of the axis; a preset of class 4 is one of the held preset value.
+pub fn react(
+    four: bool,
+    link: Link,
+    rules: InForce,
+    faulty: bool,
+    word: u32,
+    stored: i64,
+) -> Reaction
+    ensures { λ r. ⌜ r ≡ reaction four rules link faulty word stored ⌝ }
+{
+    if four {
+        return class4::react(link, rules, faulty, word, stored);
+    }
+    class2::react(link, rules, faulty, word)
 }
 
 impl Link {

@@ -56,17 +56,24 @@ fn cut(log: &[u8], output: &mut [u8], size: usize) {
 }
 
 fn run(log: &[u8], output: &mut [u8]) {
+    let room = output.len();
     match answer(log, output) {
         Outcome::Written(n) => print(&output[..n]),
-        Outcome::Refused(n) => refused(n),
+        Outcome::Refused(n) => {
+            if room == OUTPUT {
+                // as axislog prints it
+                numbered(b"(refused ", n, b")\n");
+            } else {
+                numbered(b"turned away with ", n, b"\n");
+            }
+        }
     }
 }
 
-// No answer was written: the call itself was turned away.
-fn refused(n: u8) {
-    print(b"turned away with ");
+fn numbered(before: &[u8], n: u8, behind: &[u8]) {
+    print(before);
     io::print_decimal(STDOUT_FILENO, n as u64);
-    print(b"\n");
+    print(behind);
 }
 
 fn print(text: &[u8]) {

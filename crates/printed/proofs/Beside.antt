@@ -1,62 +1,69 @@
 -- A state of a log beside its book: a started axis stands where the library's own run stands, beside the same ledger, and all that the accuracy
--- theorem says of that run from here on (`Going`) goes with it. And what a printed position then tells.
+-- theorem says of that run from here on goes with it. So what the table takes shows a position that agrees; what it refuses changes nothing.
 -- Assumes nothing.
 use mathlib.Core.Path.{_≡_, refl}
 use mathlib.Core.List.{List, []}
+use Prim.Native.Nat.{ℕ, zero, suc}
 use lib.IntN.{ℤ}
-use Rattle.integer.specs.Modulus.{_modulo_}
 use Rattle.encoder.specs.Refusal.{answer}
-use Rattle.encoder.specs.Parameters.{refusalOn}
 use Rattle.travel.specs.declared.Reported.{Reported}
 use Rattle.travel.specs.declared.Reported.the-variants.{At as Found, Refused as Outside}
 use Rattle.axis.specs.declared.Axis.{Axis}
 use Rattle.axis.specs.Axis.{reported}
+use Rattle.axis.specs.Reading.{next}
 use Rattle.link.specs.Link.{quiet}
-use Rattle.accuracy.specs.Ledger.{Device, force, Ledger}
-use Rattle.accuracy.specs.Claim.{Event, Reports, Accurate, number}
+use Rattle.accuracy.specs.Ledger.{Device, Ledger}
+use Rattle.accuracy.specs.Claim.{Event, Reports, Accurate}
 use Rattle.accuracy.specs.Run.{State as RunState, library}
-use Rattle.forms.specs.declared.Form.{Form}
-use Rattle.forms.specs.declared.Form.the-variants.{Preset}
 use Rattle.replies.specs.declared.Stage.the-variants.{NoAxis, Waiting, Started}
 use Rattle.replies.specs.declared.State.{State}
 use Rattle.replies.specs.declared.Reply.{Reply}
-use Rattle.replies.specs.State.{shown, position, after}
-use Rattle.printed.specs.Printed.{Book, none, waiting, kept, told, booked, Holds, Puts}
+use Rattle.replies.specs.State.{shown, position, refused, taken, after}
+use Rattle.printed.specs.Printed.{Book, none, waiting, kept, Due, refusal, booked, Stands, Meets}
+
+-- what an axis was set up as
+abbrev pub deviceOf : Axis → Device
+deviceOf a = record { plate = a .nameplate; parameters = a .parameters }
 
 -- ---- the library's run from an axis on
 abbrev pub run : Axis → RunState
 run a = record { axis = a; link = quiet }
 
-abbrev pub Going : Device → Ledger → Axis → Type 0
-Going d l a = (es : List Event) → Accurate d library (run a) l es
+pub record Going (d : Device) (l : Ledger) (a : Axis) : Type 0 where
+  pub is : deviceOf a ≡ d
+  pub last : a .travel .last .0 ≡ l .last
+  pub accurate : (es : List Event) → Accurate d library (run a) l es
 
 pub now : (d : Device) (l : Ledger) (a : Axis) → Going d l a → Reports d l (reported a)
 unfolding Accurate
-now d l a g = g []
+now d l a g = g .accurate []
 
--- what an axis was set up as
-abbrev pub made : Axis → Device
-made a = record { plate = a .nameplate; parameters = a .parameters }
-
--- a state beside its book
+-- ---- a state beside its book
 abbrev pub Beside : State → Book → Type 0
 Beside s none = s .stage ≡ NoAxis
-Beside s (waiting d) = (s .stage ≡ Waiting) × (made (s .axis) ≡ d) × (refusalOn (d .plate) (d .parameters) ≡ 0)
-Beside s (kept d l) = (s .stage ≡ Started) × (made (s .axis) ≡ d) × Going d l (s .axis)
+Beside s (waiting d) = (s .stage ≡ Waiting) × (deviceOf (s .axis) ≡ d)
+Beside s (kept d l) = (s .stage ≡ Started) × Going d l (s .axis)
 
--- what is shown of a line with form f, by its reply r
-abbrev pub Done : Form → Book → ℤ → Reply → Type 0
-Done f b m r = let after = booked f b m (r .answer) in Holds (r .answer) after × Puts f (r .answer) b × Beside (r .state) after
+-- what is to be shown of a line that is due x, by its reply r
+abbrev pub Done : Due → Book → ℤ → Reply → Type 0
+Done x b m r = let after = booked x b m (r .answer) in Meets x after (r .answer) × Beside (r .state) after
 
--- ---- the position that is printed
-pub told-is : (q : Reported) → told (position q) ≡ number q
-told-is (Found p u) = refl
-told-is (Outside n) = refl
+-- ---- a call that is taken shows a position
+position-stands : (d : Device) (l : Ledger) (q : Reported) → Reports d l q → Stands (kept d l) (position q)
+position-stands d l (Found p u) h = h
+position-stands d l (Outside n) h = h
 
-pub shown-holds : (d : Device) (l : Ledger) (q : Reported) → Reports d l q → Holds (position q) (kept d l)
-shown-holds d l (Found p u) h = h
-shown-holds d l (Outside n) h = tt
+pub stands : (d : Device) (l : Ledger) (a : Axis) → Going d l a → Stands (kept d l) (shown a) × Beside (taken a .state) (kept d l)
+unfolding shown
+stands d l a g = (position-stands d l (reported a) (now d l a g), (refl, g))
 
-pub shown-puts : (d : Device) (l : Ledger) (v : ℤ) (q : Reported) → number q ≡ v modulo force d .span .0 → Puts (Preset v) (position q) (kept d l)
-shown-puts d l v (Found p u) h = h
-shown-puts d l v (Outside n) h = tt
+-- ---- a line by the number of its refusal: any reply r where it is taken, or a call that leaves axis c then
+module _ (s : State) (b : Book) (h : Beside s b) (m : ℤ) (x : Due) where
+  pub by-number : (r : Reply) (n : ℕ) → (n ≡ 0 → Done x b m r) → Done (answer refusal x n) b m (answer (refused s) r n)
+  by-number r zero t = t refl
+  by-number r (suc n) t = (refl, h)
+
+  pub by-next : (a c : Axis) (n : ℕ) → (n ≡ 0 → Done x b m (taken c)) → Done (answer refusal x n) b m (after s (next a n c))
+  unfolding after
+  by-next a c zero t = t refl
+  by-next a c (suc n) t = (refl, h)

@@ -1,1 +1,3 @@
 pub mod Printed
+pub mod Axislog
+pub mod Worthless

@@ -15,7 +15,7 @@ use Rattle.axis.specs.Axis.{acceptable, axisRefusal, positionOf, reported}
 use Rattle.axis.specs.Reading.{startRaw, readRaw}
 use Rattle.axis.specs.Preset.{preset as presetOn}
 use Rattle.axis.proofs.AxisLaws.{limits-of, accepts}
-use Rattle.axis.proofs.LimitsKept.{raw-kept, preset-kept, started-kept}
+use Rattle.axis.proofs.LimitsKept.{raw-kept, preset-kept, raw-started-kept}
 use Rattle.forms.specs.declared.Setup.{Setup}
 use Rattle.forms.specs.declared.Form.{Form}
 use Rattle.forms.specs.declared.Form.the-variants.{Axis as AxisForm, Read, Preset, Nothing}
@@ -46,9 +46,8 @@ unfolding unstarted
 unstarted-kept g f h e = absurd (h e)
 
 read-kept : (g : Stage) (s : State) (raw : ℕ) → s .stage ≡ g → Kept s → Kept (readAt g s raw .state)
-unfolding startRaw
 read-kept NoAxis s raw e k = k
-read-kept Waiting s raw e k = after-kept s (startRaw (s .axis .nameplate) (s .axis .parameters) raw) k (λ z. started-kept _ _ _ _ z)
+read-kept Waiting s raw e k = after-kept s (startRaw (s .axis .nameplate) (s .axis .parameters) raw) k (λ z. raw-started-kept _ _ _ z)
 read-kept Started s raw e k = after-kept s (readRaw (s .axis) raw) k (λ z. accepts _ (raw-kept (s .axis) (limits-of (s .axis) (k e)) raw))
 
 preset-at-kept : (g : Stage) (s : State) (v : ℤ) → s .stage ≡ g → Kept s → Kept (presetAt g s v .state)

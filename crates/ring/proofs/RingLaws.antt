@@ -116,8 +116,8 @@ module _ (d : ℤ) (f : SFits w64 d) where
     pub turned-nat : Fits w64 (natAbs (toZ w64 (ofZ w64 (negsuc 0 -ℤ toZ w64 (ofZ w64 d)))))
     turned-nat = rw turned-read (record { fits = omega (arith, turned, most) })
 
-    pub turned-next : Fits w64 (natAbs (toZ w64 (ofZ w64 (negsuc 0 -ℤ toZ w64 (ofZ w64 d)))) + 1)
-    turned-next = rw turned-read (record { fits = omega (arith, turned, most) })
+    pub turned-next : (n : ℕ) → n ≤ 2 → Fits w64 (natAbs (toZ w64 (ofZ w64 (negsuc 0 -ℤ toZ w64 (ofZ w64 d)))) + n)
+    turned-next n h = rw turned-read (record { fits = omega (arith, turned, most) })
 
     pub turned-is : natAbs (toZ w64 (ofZ w64 (negsuc 0 -ℤ toZ w64 (ofZ w64 d)))) + 1 ≡ natAbs d
     turned-is = rw turned-read (turned .1)

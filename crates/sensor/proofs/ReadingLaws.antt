@@ -25,6 +25,20 @@ turns-fit n t passed h =
     let k : t * n .steps .0 ≤ 32768 * 65536 = N.mul-le-mul m (p .steps-most) in
     record { fits = omega arith }
 
+-- a turn of the sensor and its steps are within C, and so they fit
+module _ (n : Nameplate) (t : ℕ) (t-in : t < n .turns .0) where
+  turn-most : t * n .steps .0 + n .steps .0 ≤ capacityOf n
+  turn-most =
+      let h : (t + 1) * n .steps .0 ≤ n .turns .0 * n .steps .0 = N.mul-le-mul-right (n .steps .0) (omega arith) in
+      omega (arith, N.add-mul t 1 (n .steps .0), N.mul-comm (n .turns .0) (n .steps .0))
+
+  module _ (passed : plateFits n ≡ true) (x : ℕ) (x-in : x ≤ n .steps .0) where
+    pub sum-fits : Fits w64 (t * n .steps .0 + x)
+    sum-fits = record { fits = omega (arith, turn-most, capacity-most n passed) }
+
+    pub sum-fits-32 : Fits w32 (t * n .steps .0 + x)
+    sum-fits-32 = record { fits = omega (arith, turn-most, capacity-most n passed) }
+
 module _ (n : Nameplate) (s t : ℕ) where
   pub reading-7 : plateFits n ≡ false → Refused 7 ≡ numbered n s t
   unfolding numbered stepRefusal
@@ -41,17 +55,9 @@ module _ (n : Nameplate) (s t : ℕ) where
 
     module _ (t-in : t < n .turns .0) where
       pub raw-lt : rawOf n s t < capacityOf n
-      raw-lt =
-          let h : (t + 1) * n .steps .0 ≤ n .turns .0 * n .steps .0 = N.mul-le-mul-right (n .steps .0) (omega arith) in
-          omega (arith, N.add-mul t 1 (n .steps .0), N.mul-comm (n .turns .0) (n .steps .0))
+      raw-lt = omega (arith, turn-most n t t-in)
 
       module _ (passed : plateFits n ≡ true) where
-        pub raw-fits : Fits w64 (rawOf n s t)
-        raw-fits = record { fits = omega (arith, raw-lt, capacity-most n passed) }
-
-        pub raw-fits-32 : Fits w32 (rawOf n s t)
-        raw-fits-32 = record { fits = omega (arith, raw-lt, capacity-most n passed) }
-
         pub reading-number : Number (rawOf n s t) ≡ numbered n s t
         unfolding numbered stepRefusal
         reading-number = rw (passed, lt-leb _ _ s-in, lt-leb _ _ t-in)
@@ -87,4 +93,4 @@ reading-lt n s t e =
     let h = taken-in (plateFits n) (leb (n .steps .0) s) (leb (n .turns .0) t) e in
     raw-lt n s t (leb-false _ _ (h .0)) (leb-false _ _ (h .1))
 
-pub ruleset readings = (plate-failed, plate-passed, reading-7, reading-8, reading-9, turns-fit, raw-fits, raw-fits-32, reading-number)
+pub ruleset readings = (N.le-refl, N.le-of-lt, plate-failed, plate-passed, reading-7, reading-8, reading-9, turns-fit, sum-fits, sum-fits-32, reading-number)

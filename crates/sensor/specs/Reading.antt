@@ -1,12 +1,11 @@
 -- A reading and its raw number (document 01, "Plate and reading"; rows 8 and 9 of "When a call is turned away").
 -- Assumes nothing.
-use Prim.Native.Nat.{ℕ, _+_, _*_, _/_, _%_}
+use Prim.Native.Nat.{ℕ, _+_, _*_}
 use mathlib.Core.Bool.{not}
 use lib.Dec.{leb}
 use Rattle.encoder.specs.declared.nameplate.Nameplate.{Nameplate}
 use Rattle.sensor.specs.declared.Reading.{Reading}
 use Rattle.sensor.specs.declared.Reading.the-variants.{Number, Refused}
-use Rattle.sensor.specs.declared.Sensed.{Sensed}
 use Rattle.encoder.specs.Refusal.{wrongPlate, wrongStep, wrongTurn, when, _before_, answer}
 use Rattle.encoder.specs.Nameplate.{plateFits}
 
@@ -21,7 +20,3 @@ stepRefusal n s t = when (not (plateFits n)) wrongPlate before when (leb (n .ste
 -- the answer: the raw number of step s and turn t, or the number of the refusal
 unfoldable pub numbered : Nameplate → ℕ → ℕ → Reading
 numbered n s t = answer Refused (Number (rawOf n s t)) (stepRefusal n s t)
-
--- the step and the turn whose raw number it is
-abbrev pub sensed : Nameplate → ℕ → Sensed
-sensed n raw = record { step = record { 0 = raw % n .steps .0 }; turn = record { 0 = raw / n .steps .0 } }

@@ -2,7 +2,7 @@
 ghost use mathlib.Core.Path.{_≡_};
 ghost use mathlib.Core.Bool.{true};
 ghost use Rattle.encoder.specs.Nameplate.{plateFits};
-ghost use Rattle.sensor.specs.Reading.{numbered, sensed};
+ghost use Rattle.sensor.specs.Reading.{numbered};
 use encoder::nameplate::Nameplate;
 use encoder::quantity::Steps;
 use encoder::quantity::Turns;
@@ -11,12 +11,6 @@ use encoder::refusal;
 pub enum Reading {
     Number(u32),
     Refused(u8),
-}
-
-// The step within the turn and the turns counted.
-pub struct Sensed {
-    pub step: Steps,
-    pub turn: Turns,
 }
 
 // The raw number of a step within the turn and the turns counted.
@@ -42,22 +36,4 @@ fn on_sensor(plate: Nameplate, step: Steps, turn: Turns) -> Reading
         return Reading::Refused(refusal::TURN);
     }
     Reading::Number((turn.0 as u64 * steps + step.0) as u32)
-}
-
-// The step and the turn that a raw number stands for.
-pub fn sense(plate: Nameplate, raw: u32) -> Sensed
-    ensures { λ r. ⌜ r ≡ sensed plate raw ⌝ }
-{
-    let steps = plate.steps.0;
-    if steps == 0 {
-        // no such plate is taken
-        return Sensed {
-            step: Steps(raw as u64),
-            turn: Turns(0),
-        };
-    }
-    Sensed {
-        step: Steps(raw as u64 % steps),
-        turn: Turns((raw as u64 / steps) as u32),
-    }
 }

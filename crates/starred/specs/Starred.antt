@@ -9,7 +9,7 @@ use Rattle.encoder.specs.declared.nameplate.Nameplate.{Nameplate}
 use Rattle.encoder.specs.declared.parameters.Parameters.{Parameters}
 use Rattle.encoder.specs.declared.parameters.Parameters.the-variants.{Class2, Class4}
 use Rattle.encoder.specs.declared.effect.Effect.{Effect}
-use Rattle.encoder.specs.declared.effect.Effect.the-variants.{Taken as InForce, Refused as NotInForce}
+use Rattle.encoder.specs.declared.effect.Effect.the-variants.{Taken as Effective, Refused as NotInForce}
 use Rattle.encoder.specs.InForce.{inForce}
 use Rattle.reader.specs.declared.Received.{Received}
 use Rattle.reader.specs.declared.Received.the-variants.{Taken, Refused}
@@ -55,7 +55,7 @@ four m l unit = Class4 0x2A (record { 0 = m }) (record { 0 = l }) 0 unit
 
 -- ---- what is shown of an answer; nothing where a call is turned away
 abbrev pub scaling : Effect → List ℤ
-scaling (InForce f) = pos (f .scale .0) ∷ pos (f .span .0) ∷ []
+scaling (Effective f) = pos (f .scale .0) ∷ pos (f .span .0) ∷ []
 scaling (NotInForce n) = []
 
 abbrev pub taken : Received → List ℤ

@@ -4,9 +4,10 @@
 use mathlib.Core.Path.{_≡_, refl, sym, _∙_}
 use mathlib.Core.Bool.{Bool, true, false, not, _&&_}
 use mathlib.Core.List.{List, [], _∷_, _++_, append-assoc, append-nil}
-use Prim.Native.Nat.{ℕ, suc, _+_, _≤_, _<_}
+use Prim.Native.Nat.{ℕ, zero, suc, _+_, _≤_, _<_}
 use native.Mathlib.Numerals.{add-one}
 use native.Mathlib.Omega.{arith}
+use native.Mathlib.Nat as N
 use lib.IntN.{ℤ}
 use lib.ListN.{length, getD, take, drop, set, length-set, drop-of-length-le}
 use lib.Seq.{drop-cons, take-suc-set, take-all}
@@ -21,9 +22,9 @@ use Rattle.encoder.proofs.RefusalLaws.{refused-is, before-first, before-none}
 use Rattle.encoder.proofs.PlateLaws.{and-split}
 use Rattle.travel.specs.declared.Travel.{Travel}
 use Rattle.travel.specs.declared.Moved.the-variants.{To, Refused}
-use Rattle.travel.specs.Travel.{inside, Inside, moveRefusal, movedTo, positionAt}
+use Rattle.travel.specs.Travel.{inside, Inside, moveOf, moveRefusal, movedTo, positionAt}
 use Rattle.travel.specs.Batch.{refusalIn, after, positionsIn, batchRefusal, batched, batchedList}
-use Rattle.travel.proofs.SensorLaws.{raw-lt, taken-lt}
+use Rattle.travel.proofs.SensorLaws.{move-fits, raw-lt, taken-lt}
 use Rattle.travel.proofs.TravelLaws.{inside-true, moved-kept}
 
 -- ---- the first walk
@@ -54,23 +55,37 @@ pub record Going (f : InForce) (offset : ℤ) (k₀ : Travel) (s : List ℕ) (k 
   pub ends : after f k (drop i s) ≡ after f k₀ s
   pub writes : take i out ++ positionsIn f offset k (drop i s) ≡ positionsIn f offset k₀ s
 
+-- every reading of a list that is not refused is one of the sensor's
+raw-of : (f : InForce) (last : ℕ) (s : List ℕ) (i : ℕ) → refusalIn f last s ≡ 0 → i < length s → getD s i 0 < f .capacity .0
+unfolding refusalIn
+raw-of f last [] i e h = absurd (omega arith)
+raw-of f last (raw ∷ raws) zero e h = raw-lt f last raw (before-none (moveRefusal f last raw) (refusalIn f raw raws) e .0)
+raw-of f last (raw ∷ raws) (suc i) e h = raw-of f raw raws i (before-none (moveRefusal f last raw) (refusalIn f raw raws) e .1) (omega arith)
+
+pub zero-le : (n : ℕ) → 0 ≤ n
+zero-le n = omega arith
+
+pub raws-lt : (f : InForce) (last : ℕ) (s : List ℕ) (i j : ℕ) → refusalIn f last s ≡ 0 → i < length s → j ≤ i → getD s j 0 < f .capacity .0
+raws-lt f last s i j e h k = raw-of f last s j e (omega arith)
+
+-- the move as the machine reads it back
+pub going-move : (f : InForce) (k : Travel) (raw : ℕ) (d : ℤ) → Inside f k → d ≡ moveOf f (k .last .0) raw → toZ w64 (ofZ w64 d) ≡ moveOf f (k .last .0) raw
+going-move f k raw d i d-is = rw (d-is, reads (move-fits f (k .last .0) raw (i .sound)))
+
 pub going-start : (f : InForce) (offset : ℤ) (k : Travel) (s out : List ℕ) → Inside f k → length s ≡ length out → refusalIn f (k .last .0) s ≡ 0
     → Going f offset k s k 0 out
 going-start f offset k s out i long none = record { long = long; stands = i; none = none; ends = refl; writes = refl }
 
 module _ (f : InForce) (offset : ℤ) (k₀ : Travel) (s : List ℕ) (k : Travel) (i : ℕ) (out : List ℕ) (g : Going f offset k₀ s k i out) where
+  pub going-inside : (n : Travel) (raw : ℕ) → n ≡ movedTo f k raw → raw < f .capacity .0 → Inside f n
+  going-inside n raw n-is lt = rw n-is (moved-kept f k raw (g .stands) lt)
+
   module _ (h : i < length s) where
     parts : (moveRefusal f (k .last .0) (getD s i 0) ≡ 0) × (refusalIn f (getD s i 0) (drop (suc i) s) ≡ 0)
     unfolding refusalIn
     parts = before-none _ (refusalIn f (getD s i 0) (drop (suc i) s)) (rw (drop-cons s i 0 h) at (g .none))
 
-    pub going-lt : getD s i 0 < f .capacity .0
-    going-lt = raw-lt f (k .last .0) (getD s i 0) (parts .0)
-
-    module _ (n : Travel) (n-is : n ≡ movedTo f k (getD s i 0)) where
-      pub going-inside : Inside f n
-      going-inside = rw n-is (moved-kept f k (getD s i 0) (g .stands) going-lt)
-
+    module _ (n : Travel) (lt : getD s i 0 < f .capacity .0) (n-is : n ≡ movedTo f k (getD s i 0)) where
       pub going-more : (p : ℕ) → p ≡ positionAt f offset n → Going f offset k₀ s n (i + 1) (set out i p)
       unfolding after positionsIn movedTo
       going-more p p-is =
@@ -79,7 +94,7 @@ module _ (f : InForce) (offset : ℤ) (k₀ : Travel) (s : List ℕ) (k : Travel
           let writes-here : positionsIn f offset k (drop i s) ≡ p ∷ positionsIn f offset n (drop (suc i) s) = rw (drop-cons s i 0 h, p-is, n-is) in
           record {
             long = g .long ∙ simp length-set;
-            stands = going-inside;
+            stands = going-inside n (getD s i 0) n-is lt;
             none = rw (add-one, n-is) (parts .1);
             ends = rw add-one (sym ends-here ∙ g .ends);
             writes =
@@ -103,7 +118,7 @@ pub going-positions : (f : InForce) (offset : ℤ) (k₀ : Travel) (s : List ℕ
     → Going f (toZ w64 (ofZ w64 offset)) k₀ s k i out → length s ≤ i → out ≡ positionsIn f offset k₀ s
 going-positions f offset k₀ s k i out fits g h = rw (reads fits) at (going-list f (toZ w64 (ofZ w64 offset)) k₀ s k i out g h)
 
-pub ruleset walks = (going-start, going-lt, going-inside, going-more, going-travel, going-positions)
+pub ruleset walks = (N.le-refl, zero-le, raws-lt, going-move, going-start, going-inside, going-more, going-travel, going-positions)
 
 -- ---- the ways out: by the tests a of the limits and b of the offset, and the number n of the first refusal
 in-range-is : (offset : ℤ) (span : ℕ) (b : Bool) → SFits w64 offset → b ≡ inRange (toZ w64 (ofZ w64 offset)) span → inRange offset span ≡ b

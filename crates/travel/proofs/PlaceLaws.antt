@@ -1,7 +1,7 @@
 -- The place: R × L and its products fit the machine's words, and each function gives what its definition says.
 -- Assumes nothing.
 use mathlib.Core.Path.{_≡_, refl, _∙_}
-use Prim.Native.Nat.{ℕ, _+_, _-_, _*_, _/_, _%_, _^_, _≤_, _<_}
+use Prim.Native.Nat.{ℕ, _-_, _*_, _/_, _%_, _^_, _≤_, _<_}
 use native.Mathlib.Omega.{arith}
 use native.Mathlib.Nat as N
 use lib.IntN.{ℤ, pos, _+ℤ_}
@@ -45,10 +45,10 @@ module _ (f : InForce) (k : Travel) (i : Inside f k) where
       rw p
 
   -- ---- the positions
-  pub units-fit : Fits w64 (k .place .0 * f .scale .0)
-  units-fit =
+  pub units-fit : (n : ℕ) → n ≤ 65536 → Fits w64 (k .place .0 * n)
+  units-fit n most =
       let m : k .place .0 ≤ 2 ^ 47 - 1 = omega (arith, i .place, ring-most f (i .sound)) in
-      let h : k .place .0 * f .scale .0 ≤ (2 ^ 47 - 1) * 65536 = N.mul-le-mul m (i .sound .scale-most) in
+      let h : k .place .0 * n ≤ (2 ^ 47 - 1) * 65536 = N.mul-le-mul m most in
       record { fits = omega arith }
 
   pub span-fits : (x : ℕ) → Fits w32 (x % f .span .0)

@@ -1,4 +1,4 @@
--- Raw numbers: each way out of orienting, of the difference, of the shorter way and of the refusals; and that a move is at most C.
+-- Raw numbers: each way out of orienting, of the difference, of the shorter way and of the approach; and that a move is at most C.
 -- Assumes nothing.
 use mathlib.Core.Path.{_≡_, refl, sym, _∙_}
 use mathlib.Core.Bool.{Bool, true, false, cond}
@@ -6,19 +6,22 @@ use Prim.Native.Nat.{ℕ, zero, suc, _+_, _-_, _*_, _^_, _≤_, _<_}
 use native.Mathlib.Omega.{arith}
 use native.Mathlib.Nat as N
 use lib.Dec.{ltb, leb}
-use lib.IntN.{pos, negℤ, natAbs, _-ℤ_}
+use lib.IntN.{ℤ, pos, negℤ, natAbs, _-ℤ_}
 use borrow.Author.Tests.{lt-ltb, le-ltb, le-leb, lt-leb, leb-false, eq-eqb, ne-eqb}
 use mir.Syntax.{w64}
 use mir.Val.{SFits, toZ, ofZ}
 use mir.ValLaws.{toZ-pos}
 use Rattle.integer.specs.Modulus.{_modulo_}
 use Rattle.integer.proofs.Signed.{signed, neg-is, diff-is}
-use Rattle.integer.proofs.Size.{abs-is, fits-abs, diff-fits, diff-reads}
+use Rattle.integer.proofs.Size.{reads, abs-is, fits-abs, diff-fits, diff-reads}
 use Rattle.integer.proofs.Modulus.{modulo-lt, modulo-is, modulo-alike}
 use Rattle.encoder.specs.declared.effect.InForce.{InForce}
 use Rattle.encoder.specs.InForce.{Sound}
-use Rattle.encoder.specs.Refusal.{when, _before_}
-use Rattle.travel.specs.Travel.{oriented, difference, shorter, moveOf, moveRefusal}
+use Rattle.encoder.specs.Refusal.{when, _before_, answer}
+use Rattle.encoder.proofs.RefusalLaws.{refused-is}
+use Rattle.travel.specs.declared.Approach.{Approach}
+use Rattle.travel.specs.declared.Approach.the-variants.{By, Refused}
+use Rattle.travel.specs.Travel.{oriented, difference, shorter, moveOf, halfRefusal, moveRefusal, approachFrom}
 
 -- ---- 1. the oriented number
 module _ (f : InForce) (raw : ℕ) where
@@ -90,37 +93,62 @@ module _ (n c : ℕ) (lt : n < c) where
     pub back-fits : SFits w64 (toZ w64 n -ℤ toZ w64 c)
     back-fits = diff-fits n c (omega arith) (omega arith)
 
-module _ (f : InForce) (last raw : ℕ) (s : Sound f) where
-  pub move-most : natAbs (moveOf f last raw) ≤ f .capacity .0
-  unfolding moveOf
-  move-most = shorter-most (difference f last raw) _ (difference-lt f last raw s)
+    pub way-ahead : 2 * n < c → toZ w64 n ≡ shorter n c
+    way-ahead h = toZ-pos w64 n (omega arith) ∙ sym (shorter-ahead h)
 
-  pub move-fits : SFits w64 (moveOf f last raw)
-  move-fits = fits-abs _ (omega (arith, move-most, s .capacity-most))
+    pub way-back : c ≤ 2 * n → toZ w64 (ofZ w64 (toZ w64 n -ℤ toZ w64 c)) ≡ shorter n c
+    way-back h = diff-reads n c (omega arith) (omega arith) ∙ sym (shorter-back h)
 
-  module _ (n : ℕ) (n-is : n ≡ difference f last raw) (lt : n < f .capacity .0) where
-    pub move-ahead : 2 * n < f .capacity .0 → toZ w64 n ≡ moveOf f last raw
-    unfolding moveOf
-    move-ahead h = rw (← n-is, shorter-ahead n _ lt h) (toZ-pos w64 n (omega (arith, s .capacity-most)))
-
-    pub move-back : f .capacity .0 ≤ 2 * n → toZ w64 (ofZ w64 (toZ w64 n -ℤ toZ w64 (f .capacity .0))) ≡ moveOf f last raw
-    unfolding moveOf
-    move-back h = rw (← n-is, shorter-back n _ lt h) (diff-reads n (f .capacity .0) (omega (arith, s .capacity-most)) (omega (arith, s .capacity-most)))
-
--- ---- the refusals
 module _ (f : InForce) (last raw : ℕ) where
+  pub move-most : Sound f → natAbs (moveOf f last raw) ≤ f .capacity .0
+  unfolding moveOf
+  move-most s = shorter-most (difference f last raw) _ (difference-lt f last raw s)
+
+  pub move-fits : Sound f → SFits w64 (moveOf f last raw)
+  move-fits s = fits-abs _ (omega (arith, move-most s, s .capacity-most))
+
+  module _ (n : ℕ) (d : ℤ) (n-is : n ≡ difference f last raw) (d-is : d ≡ shorter n (f .capacity .0)) where
+    pub move-is : d ≡ moveOf f last raw
+    unfolding moveOf
+    move-is = rw (← n-is) d-is
+
+    -- ---- the move, or its refusal
+    pub approach-by : (half : ℕ) → Sound f → raw < f .capacity .0 → half ≡ 0 → half ≡ halfRefusal n (f .capacity .0) → By (toZ w64 (ofZ w64 d)) ≡ approachFrom f last raw
+    unfolding approachFrom moveRefusal
+    approach-by half s lt z half-is = rw (lt-leb _ _ lt, ← n-is, ← half-is, z, move-is, reads (move-fits s))
+
+  module _ (n half : ℕ) (n-is : n ≡ difference f last raw) (lt : raw < f .capacity .0) (half-is : half ≡ halfRefusal n (f .capacity .0)) where
+    pub raw-half : half ≡ moveRefusal f last raw
+    unfolding moveRefusal
+    raw-half = rw (lt-leb _ _ lt, ← n-is) half-is
+
+    pub approach-10 : (half ≡ 0 → ⊥) → Refused half ≡ approachFrom f last raw
+    unfolding approachFrom
+    approach-10 ne = rw (← raw-half) (sym (refused-is Refused (By (moveOf f last raw)) half ne))
+
   pub raw-9 : f .capacity .0 ≤ raw → 9 ≡ moveRefusal f last raw
   unfolding moveRefusal
   raw-9 h = rw (le-leb _ _ h)
 
-  module _ (n : ℕ) (lt : raw < f .capacity .0) where
-    pub raw-10 : 2 * n ≡ f .capacity .0 → n ≡ difference f last raw → 10 ≡ moveRefusal f last raw
-    unfolding moveRefusal
-    raw-10 h e = rw (lt-leb _ _ lt, ← e, eq-eqb _ _ h)
+  pub approach-9 : f .capacity .0 ≤ raw → Refused 9 ≡ approachFrom f last raw
+  unfolding approachFrom
+  approach-9 h = rw (← raw-9 h)
 
-    pub raw-none : (2 * n ≡ f .capacity .0 → ⊥) → n ≡ difference f last raw → 0 ≡ moveRefusal f last raw
-    unfolding moveRefusal
-    raw-none h e = rw (lt-leb _ _ lt, ← e, ne-eqb _ _ h)
+module _ (n c : ℕ) where
+  pub half-not : (2 * n ≡ c → ⊥) → 0 ≡ halfRefusal n c
+  half-not ne = rw (ne-eqb _ _ ne)
+
+  pub half-is : 2 * n ≡ c → 10 ≡ halfRefusal n c
+  half-is e = rw (eq-eqb _ _ e)
+
+-- taken apart
+pub by-taken : (e : Approach) (z d : ℤ) (n : ℕ) → e ≡ By d → e ≡ answer Refused (By z) n → (n ≡ 0) × (d ≡ z)
+by-taken e z d zero t e-is = let h : By d ≡ By z = sym t ∙ e-is in (refl, cc)
+by-taken e z d (suc n) t e-is = let h : By d ≡ Refused (suc n) = sym t ∙ e-is in let w : _≡_ {A = ℕ} 0 1 = cc in absurd (omega arith)
+
+pub by-refused : (e : Approach) (z : ℤ) (n j : ℕ) → e ≡ Refused j → e ≡ answer Refused (By z) n → (n ≡ j) × (j ≡ 0 → ⊥)
+by-refused e z zero j t e-is = let h : Refused j ≡ By z = sym t ∙ e-is in let w : _≡_ {A = ℕ} 0 1 = cc in absurd (omega arith)
+by-refused e z (suc n) j t e-is = let h : Refused j ≡ Refused (suc n) = sym t ∙ e-is in let w : suc n ≡ j = cc in (w, λ v. omega arith)
 
 -- a reading that is taken is one of the sensor's
 raw-below : (c raw m : ℕ) (b : Bool) → leb c raw ≡ b → (when b 9 before m) ≡ 0 → raw < c
@@ -143,9 +171,14 @@ pub ruleset sensors = (
   difference-off,
   difference-on,
   back-fits,
-  move-ahead,
-  move-back,
+  way-ahead,
+  way-back,
+  move-is,
+  half-not,
+  half-is,
+  approach-by,
+  approach-9,
+  approach-10,
   raw-9,
-  raw-10,
-  raw-none,
+  raw-half,
 )

@@ -5,7 +5,7 @@ use mathlib.Core.Bool.{Bool, true, false, not, _&&_}
 use Prim.Native.Nat.{ℕ, zero, suc, _%_, _≤_, _<_}
 use native.Mathlib.Omega.{arith}
 use native.Mathlib.Nat as N
-use lib.Dec.{ltb}
+use lib.Dec.{ltb, leb}
 use lib.IntN.{ℤ}
 use borrow.Author.Tests.{not-true, not-false, lt-ltb, ltb-true, le-leb, lt-leb}
 use mir.Syntax.{w64}
@@ -14,9 +14,9 @@ use Rattle.integer.proofs.Size.{reads}
 use Rattle.integer.proofs.Modulus.{modulo-lt}
 use Rattle.encoder.specs.declared.quantity.Units.{Units}
 use Rattle.encoder.specs.declared.effect.InForce.{InForce}
-use Rattle.encoder.specs.Refusal.{answer}
+use Rattle.encoder.specs.Refusal.{wrongTurn, noAxis, when, answer}
 use Rattle.encoder.specs.InForce.{rulesFit, Sound}
-use Rattle.encoder.proofs.RefusalLaws.{refused-is}
+use Rattle.encoder.proofs.RefusalLaws.{refused-is, before-none, when-none}
 use Rattle.encoder.proofs.PlateLaws.{and-split}
 use Rattle.encoder.proofs.SoundLaws.{sound-of, fits-of}
 use Rattle.travel.specs.declared.Travel.{Travel}
@@ -25,8 +25,8 @@ use Rattle.travel.specs.declared.Moved.the-variants.{To, Refused as NotM
 use Rattle.travel.specs.declared.Approach.{Approach}
 use Rattle.travel.specs.declared.Approach.the-variants.{By, Refused as NotApproached}
 use Rattle.travel.specs.declared.Reported.the-variants.{At, Refused}
-use Rattle.travel.specs.Travel.{ring, inside, Inside, nowhere, oriented, started, moveOf, moveRefusal, movedTo, unshifted, positionAt, beginRefusal, begun, travelRefusal, approached, moved, reportedAt}
-use Rattle.travel.proofs.SensorLaws.{move-fits, taken-lt}
+use Rattle.travel.specs.Travel.{ring, inside, Inside, nowhere, oriented, started, moveOf, moveRefusal, movedTo, unshifted, positionAt, approachFrom, beginRefusal, begun, travelRefusal, approached, moved, reportedAt}
+use Rattle.travel.proofs.SensorLaws.{move-fits, raw-lt, by-taken, by-refused}
 use Rattle.travel.proofs.PlaceLaws.{ring-least}
 
 -- ---- the limits
@@ -114,44 +114,51 @@ module _ (f : InForce) (k : Travel) (b : Bool) where
     unfolding approached travelRefusal
     approached-16 t e = rw (← e, not-true b t)
 
-    pub moved-16 : not b ≡ true → b ≡ inside f k → NotMoved 16 ≡ moved f k raw
-    unfolding moved travelRefusal
-    moved-16 t e = rw (← e, not-true b t)
-
-    module _ (n : ℕ) where
-      pub approached-no : (n ≡ 0 → ⊥) → n ≡ moveRefusal f (k .last .0) raw → not b ≡ false → b ≡ inside f k → NotApproached n ≡ approached f k raw
-      unfolding approached travelRefusal
-      approached-no z n-is t e = rw (← e, not-false b t, ← n-is, refused-is NotApproached (By (moveOf f (k .last .0) raw)) n z)
-
-      pub moved-no : (n ≡ 0 → ⊥) → n ≡ moveRefusal f (k .last .0) raw → not b ≡ false → b ≡ inside f k → NotMoved n ≡ moved f k raw
-      unfolding moved travelRefusal
-      moved-no z n-is t e = rw (← e, not-false b t, ← n-is, refused-is NotMoved (To (movedTo f k raw)) n z)
-
-      pub approached-by : (d : ℤ) → d ≡ moveOf f (k .last .0) raw → n ≡ 0 → n ≡ moveRefusal f (k .last .0) raw → not b ≡ false → b ≡ inside f k
-          → By (toZ w64 (ofZ w64 d)) ≡ approached f k raw
-      unfolding approached travelRefusal
-      approached-by d d-is z n-is t e =
-          rw (← e, not-false b t, ← n-is, z, d-is, reads (move-fits f (k .last .0) raw (inside-by t e .sound)))
-
-      pub moved-to : (m : Travel) → m ≡ movedTo f k raw → n ≡ 0 → n ≡ moveRefusal f (k .last .0) raw → not b ≡ false → b ≡ inside f k
-          → To m ≡ moved f k raw
-      unfolding moved travelRefusal
-      moved-to m m-is z n-is t e = rw (← e, not-false b t, ← n-is, z, m-is)
+    pub approached-on : (e : Approach) → e ≡ approachFrom f (k .last .0) raw → not b ≡ false → b ≡ inside f k → e ≡ approached f k raw
+    unfolding approached approachFrom travelRefusal
+    approached-on e e-is t b-is = e-is ∙ rw (← b-is, not-false b t)
 
 pub ruleset readings = (
   inside-sound,
   inside-last,
   inside-by,
-  taken-lt,
   reported-16,
   reported-at,
   approached-16,
-  approached-no,
-  approached-by,
-  moved-16,
-  moved-no,
-  moved-to,
+  approached-on,
 )
+
+-- ---- a move, by the approach e
+module _ (f : InForce) (k : Travel) (raw : ℕ) (e : Approach) (e-is : e ≡ approached f k raw) where
+  module _ (d : ℤ) (h : e ≡ By d) where
+    approach-taken : (travelRefusal f k raw ≡ 0) × (d ≡ moveOf f (k .last .0) raw)
+    unfolding approached
+    approach-taken = by-taken e (moveOf f (k .last .0) raw) d (travelRefusal f k raw) h e-is
+
+    refusals-none : (when (not (inside f k)) noAxis ≡ 0) × (moveRefusal f (k .last .0) raw ≡ 0)
+    unfolding travelRefusal
+    refusals-none = before-none (when (not (inside f k)) noAxis) (moveRefusal f (k .last .0) raw) (approach-taken .0)
+
+    pub moved-inside : Inside f k
+    moved-inside = inside-true f k (when-none (inside f k) 15 (refusals-none .0))
+
+    pub moved-lt : raw < f .capacity .0
+    moved-lt = raw-lt f (k .last .0) raw (refusals-none .1)
+
+    pub moved-by : toZ w64 (ofZ w64 d) ≡ moveOf f (k .last .0) raw
+    moved-by = let i = approach-taken .1 in rw (i, reads (move-fits f (k .last .0) raw (moved-inside .sound)))
+
+    pub moved-to : (m : Travel) → m ≡ movedTo f k raw → To m ≡ moved f k raw
+    unfolding moved
+    moved-to m m-is = rw (approach-taken .0, m-is)
+
+  pub moved-no : (n : ℕ) → e ≡ NotApproached n → NotMoved n ≡ moved f k raw
+  unfolding approached moved
+  moved-no n h =
+      let i = by-refused e (moveOf f (k .last .0) raw) (travelRefusal f k raw) n h e-is in
+      rw (i .0, refused-is NotMoved (To (movedTo f k raw)) n (i .1))
+
+pub ruleset moves = (moved-inside, moved-lt, moved-by, moved-to, moved-no)
 
 -- ---- the answers taken apart
 pub to-taken : (e : Moved) (k m : Travel) (n : ℕ) → e ≡ To m → e ≡ answer NotMoved (To k) n → (n ≡ 0) × (m ≡ k)
@@ -162,14 +169,6 @@ pub to-refused : (e : Moved) (k : Travel) (n j : ℕ) → e ≡ NotMoved j → e
 to-refused e k zero j t e-is = let h : NotMoved j ≡ To k = sym t ∙ e-is in let z : _≡_ {A = ℕ} 0 1 = cc in absurd (omega arith)
 to-refused e k (suc n) j t e-is = let h : NotMoved j ≡ NotMoved (suc n) = sym t ∙ e-is in let z : suc n ≡ j = cc in (z, λ w. omega arith)
 
-pub by-taken : (e : Approach) (z d : ℤ) (n : ℕ) → e ≡ By d → e ≡ answer NotApproached (By z) n → (n ≡ 0) × (d ≡ z)
-by-taken e z d zero t e-is = let h : By d ≡ By z = sym t ∙ e-is in (refl, cc)
-by-taken e z d (suc n) t e-is = let h : By d ≡ NotApproached (suc n) = sym t ∙ e-is in let w : _≡_ {A = ℕ} 0 1 = cc in absurd (omega arith)
-
-pub by-refused : (e : Approach) (z : ℤ) (n j : ℕ) → e ≡ NotApproached j → e ≡ answer NotApproached (By z) n → (n ≡ j) × (j ≡ 0 → ⊥)
-by-refused e z zero j t e-is = let h : NotApproached j ≡ By z = sym t ∙ e-is in let w : _≡_ {A = ℕ} 0 1 = cc in absurd (omega arith)
-by-refused e z (suc n) j t e-is = let h : NotApproached j ≡ NotApproached (suc n) = sym t ∙ e-is in let w : suc n ≡ j = cc in (w, λ v. omega arith)
-
 module _ (f : InForce) (k : Travel) (i : Inside f k) where
   pub read-refusal : (raw : ℕ) → travelRefusal f k raw ≡ moveRefusal f (k .last .0) raw
   unfolding travelRefusal
@@ -179,6 +178,6 @@ module _ (f : InForce) (k : Travel) (i : Inside f k) where
   unfolding reportedAt
   reported-is offset = rw (inside-is f k i)
 
-pub begun-is : (f : InForce) (raw : ℕ) → Sound f → raw < f .capacity .0 → begun f raw ≡ To (started f raw)
+pub begun-by : (f : InForce) (raw : ℕ) → Sound f → begun f raw ≡ answer NotMoved (To (started f raw)) (when (leb (f .capacity .0) raw) wrongTurn)
 unfolding begun beginRefusal
-begun-is f raw s h = rw (fits-of f s, lt-leb _ _ h)
+begun-by f raw s = rw (fits-of f s)

@@ -54,9 +54,17 @@ shorter n c = cond (ltb n (c - n)) (pos n) (negℤ (pos (c - n)))
 unfoldable pub moveOf : InForce → ℕ → ℕ → ℤ
 moveOf f last raw = shorter (difference f last raw) (f .capacity .0)
 
--- 9: raw number ≥ C. 10: difference exactly C/2
+-- 10: a difference n of exactly C/2
+abbrev pub halfRefusal : ℕ → ℕ → ℕ
+halfRefusal n c = when (eqb (2 * n) c) halfRange
+
+-- 9: raw number ≥ C; then 10
 unfoldable pub moveRefusal : InForce → ℕ → ℕ → ℕ
-moveRefusal f last raw = when (leb (f .capacity .0) raw) wrongTurn before when (eqb (2 * difference f last raw) (f .capacity .0)) halfRange
+moveRefusal f last raw = when (leb (f .capacity .0) raw) wrongTurn before halfRefusal (difference f last raw) (f .capacity .0)
+
+-- the move, or the number of the refusal
+unfoldable pub approachFrom : InForce → ℕ → ℕ → Approach
+approachFrom f last raw = answer NotApproached (By (moveOf f last raw)) (moveRefusal f last raw)
 
 -- 3, 4. where the reading then stands
 unfoldable pub movedTo : InForce → Travel → ℕ → Travel

@@ -12,9 +12,8 @@ use encoder::quantity::Steps;
 use encoder::quantity::Units;
 use encoder::refusal;
 use place::places;
+use raw::approach;
 use raw::first_refusal;
-use raw::move_refusal;
-use raw::move_to;
 use raw::oriented;
 use ring::between;
 
@@ -80,25 +79,17 @@ impl Travel {
         if !self.inside(rules) {
             return Approach::Refused(refusal::NO_AXIS);
         }
-        let n = move_refusal(rules, self.last, raw);
-        if n != 0 {
-            return Approach::Refused(n);
-        }
-        Approach::By(move_to(rules, self.last, raw))
+        approach(rules, self.last, raw)
     }
 
     // A new reading.
     pub fn moved(self, rules: InForce, raw: u32) -> Moved
         ensures { λ r. ⌜ r ≡ moved rules self raw ⌝ }
     {
-        if !self.inside(rules) {
-            return Moved::Refused(refusal::NO_AXIS);
+        match self.approach(rules, raw) {
+            Approach::By(d) => Moved::To(self.advanced(rules, raw, d)),
+            Approach::Refused(n) => Moved::Refused(n),
         }
-        let n = move_refusal(rules, self.last, raw);
-        if n != 0 {
-            return Moved::Refused(n);
-        }
-        Moved::To(self.advanced(rules, raw))
     }
 
     // The position under an offset, and the unshifted one.

@@ -3,7 +3,7 @@ ghost use mathlib.Core.Path.{_≡_};
 ghost use Prim.Native.Nat.{_<_};
 ghost use lib.ListN.{length};
 ghost use Rattle.encoder.specs.InForce.{Sound};
-ghost use Rattle.travel.specs.Travel.{ring, Inside, movedTo, unshifted, positionAt};
+ghost use Rattle.travel.specs.Travel.{ring, Inside, moveOf, movedTo, unshifted, positionAt};
 ghost use Rattle.travel.specs.Batch.{refusalIn, after, positionsIn};
 use crate::Travel;
 use crate::raw::move_to;
@@ -20,13 +20,12 @@ pub(crate) fn places(rules: InForce) -> u64
 }
 
 impl Travel {
-    // At a new reading that is taken.
-    pub(crate) fn advanced(self, rules: InForce, raw: u32) -> Travel
-        requires { ⌜ Inside rules self × (raw < rules .capacity .0) ⌝ }
+    // At a new reading that is taken, which makes the move d.
+    pub(crate) fn advanced(self, rules: InForce, raw: u32, d: i64) -> Travel
+        requires { ⌜ Inside rules self × (raw < rules .capacity .0) × (d ≡ moveOf rules (self .last .0) raw) ⌝ }
         ensures { λ r. ⌜ r ≡ movedTo rules self raw ⌝ }
     {
         let last = Steps(raw as u64);
-        let d = move_to(rules, self.last, raw);
         let place = Steps(ring::moved(self.place.0, d, places(rules)));
         Travel { place, last }
     }
@@ -36,7 +35,10 @@ impl Travel {
         requires { ⌜ Inside rules self ⌝ }
         ensures { λ r. ⌜ (r .0 ≡ unshifted rules self) × (r .0 < rules .span .0) ⌝ }
     {
-        Units((self.place.0 * rules.scale.0 as u64 / rules.steps.0 % rules.span.0 as u64) as u32)
+        let steps = rules.steps.0;
+        let scale = rules.scale.0 as u64;
+        let span = rules.span.0 as u64;
+        Units((self.place.0 * scale / steps % span) as u32)
     }
 
     // The position.
@@ -62,7 +64,8 @@ impl Travel {
         let mut travel = self;
         let mut i = 0;
         while i < raws.len() {
-            let next = travel.advanced(rules, raws[i]);
+            let raw = raws[i];
+            let next = travel.advanced(rules, raw, move_to(rules, travel.last, raw));
             positions[i] = next.position(rules, offset);
             travel = next;
             i += 1;

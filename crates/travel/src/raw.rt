@@ -1,11 +1,12 @@
 // Raw numbers of the sensor, which begin again at 0 after C (document 01, "The axis", rules 1 and 3).
 ghost use mathlib.Core.Path.{_≡_};
-ghost use Prim.Native.Nat.{_<_};
+ghost use Prim.Native.Nat.{_≤_, _<_, _^_};
 ghost use lib.IntN.{pos, _-ℤ_};
 ghost use Rattle.integer.specs.Modulus.{_modulo_};
 ghost use Rattle.encoder.specs.InForce.{Sound};
-ghost use Rattle.travel.specs.Travel.{oriented, difference, moveOf, moveRefusal};
+ghost use Rattle.travel.specs.Travel.{oriented, difference, shorter, moveOf, halfRefusal, moveRefusal, approachFrom};
 ghost use Rattle.travel.specs.Batch.{refusalIn};
+use crate::Approach;
 use encoder::effect::InForce;
 use encoder::quantity::Steps;
 use encoder::refusal;
@@ -47,21 +48,56 @@ fn apart(capacity: Steps, from: Steps, to: Steps) -> Steps
     Steps(to.0 + (capacity.0 - from.0))
 }
 
-// The same, taken the shorter way: ahead above 0, back below.
+// A difference taken the shorter way: ahead above 0, back below.
+fn shorter(n: Steps, capacity: Steps) -> i64
+    requires { ⌜ (n .0 < capacity .0) × (capacity .0 ≤ 2 ^ 31) ⌝ }
+    ensures { λ r. ⌜ r ≡ shorter (n .0) (capacity .0) ⌝ }
+{
+    if 2 * n.0 < capacity.0 {
+        return n.0 as i64;
+    }
+    n.0 as i64 - capacity.0 as i64
+}
+
+// The refusal of a difference that leads as far ahead as back, 0 of any other.
+fn half_range(n: Steps, capacity: Steps) -> u8
+    requires { ⌜ n .0 < 2 ^ 31 ⌝ }
+    ensures { λ r. ⌜ r ≡ halfRefusal (n .0) (capacity .0) ⌝ }
+{
+    if 2 * n.0 != capacity.0 {
+        return 0;
+    }
+    refusal::HALF_RANGE
+}
+
+// The move that a new reading makes, or its refusal.
+pub(crate) fn approach(rules: InForce, last: Steps, raw: u32) -> Approach
+    requires { ⌜ Sound rules × (last .0 < rules .capacity .0) ⌝ }
+    ensures { λ r. ⌜ r ≡ approachFrom rules (last .0) raw ⌝ }
+{
+    let here = Steps(raw as u64);
+    if rules.capacity.0 <= here.0 {
+        return Approach::Refused(refusal::TURN);
+    }
+    let n = difference(rules, last, here);
+    let half = half_range(n, rules.capacity);
+    if half != 0 {
+        return Approach::Refused(half);
+    }
+    Approach::By(shorter(n, rules.capacity))
+}
+
+// The move of a new reading that is taken.
 pub(crate) fn move_to(rules: InForce, last: Steps, raw: u32) -> i64
     requires { ⌜ Sound rules × (last .0 < rules .capacity .0) × (raw < rules .capacity .0) ⌝ }
     ensures { λ r. ⌜ r ≡ moveOf rules (last .0) raw ⌝ }
 {
     let n = difference(rules, last, Steps(raw as u64));
-    let capacity = rules.capacity.0;
-    if 2 * n.0 < capacity {
-        return n.0 as i64;
-    }
-    n.0 as i64 - capacity as i64
+    shorter(n, rules.capacity)
 }
 
 // The refusal of a new reading, 0 where it is taken.
-pub(crate) fn move_refusal(rules: InForce, last: Steps, raw: u32) -> u8
+fn move_refusal(rules: InForce, last: Steps, raw: u32) -> u8
     requires { ⌜ Sound rules × (last .0 < rules .capacity .0) ⌝ }
     ensures { λ r. ⌜ r ≡ moveRefusal rules (last .0) raw ⌝ }
 {
@@ -69,11 +105,7 @@ pub(crate) fn move_refusal(rules: InForce, last: Steps, raw: u32) -> u8
     if rules.capacity.0 <= here.0 {
         return refusal::TURN;
     }
-    let n = difference(rules, last, here);
-    if 2 * n.0 != rules.capacity.0 {
-        return 0;
-    }
-    refusal::HALF_RANGE
+    half_range(difference(rules, last, here), rules.capacity)
 }
 
 // The first refusal among new readings, 0 where all are taken.

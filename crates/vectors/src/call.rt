@@ -2,10 +2,12 @@
 // parameters. `axis  2` and `axis  4` bring a nameplate and parameters, and `given` the numbers of a record.
 ghost use Rattle.io.specs.Counts.{Counts};
 use crate::answer;
+use crate::lent::lent;
 use crate::parse::decimal;
 use crate::parse::long;
 use crate::parse::past_blanks;
 use crate::parse::signed;
+use crate::same::same;
 use crate::vector::nameplate;
 use crate::vector::octets;
 use crate::vector::parameters;
@@ -26,7 +28,7 @@ pub(crate) fn run(axis: Axis, word: u8, line: &[u8]) -> Axis {
         b'a' => described(line),
         b'g' => given(axis, line),
         b'f' => answered(first(axis, line)),
-        b'r' => answered(reading(axis, line)),
+        b'r' => reading(axis, line),
         b'n' => answered(axis.read_raw(decimal(line, 8).value)),
         b'p' => answered(axis.preset(signed(line, 8).value, false)),
         b'c' => answered(axis.preset(signed(line, 8).value, true)),
@@ -125,11 +127,22 @@ fn first(axis: Axis, line: &[u8]) -> Next {
     )
 }
 
-// `reading`: a step and a turn.
-fn reading(axis: Axis, line: &[u8]) -> Next {
+// `reading`: a step and a turn, made both ways, by value and through a lent record.
+fn reading(axis: Axis, line: &[u8]) -> Axis {
     let step = decimal(line, 8);
     let turn = decimal(line, step.next);
-    axis.read(Steps(step.value as u64), Turns(turn.value))
+    let s = Steps(step.value as u64);
+    let t = Turns(turn.value);
+    compared(axis.read(s, t), lent(axis, s, t))
+}
+
+// The answer by value, and `differs` below it where the other is not the same.
+fn compared(next: Next, other: Next) -> Axis {
+    answer::next(next);
+    if !same(next, other) {
+        answer::line(b"  differs");
+    }
+    next.axis
 }
 
 // `velocity`: a step, a turn, and the milliseconds since the last reading.

@@ -3,7 +3,9 @@
 mod answer;
 mod bench;
 mod call;
+mod lent;
 mod parse;
+mod same;
 mod vector;
 
 use bytes::scan::find;

@@ -19,8 +19,7 @@ use Rattle.sensor.proofs.ReadingLaws.{reading-taken, reading-refused}
 use Rattle.travel.specs.declared.Approach.{Approach}
 use Rattle.travel.specs.declared.Approach.the-variants.{By, Refused as NotApproached}
 use Rattle.travel.specs.Travel.{moveOf, travelRefusal, approached}
-use Rattle.travel.proofs.SensorLaws.{move-most, move-fits}
-use Rattle.travel.proofs.TravelLaws.{by-taken, by-refused}
+use Rattle.travel.proofs.SensorLaws.{move-most, move-fits, by-taken, by-refused}
 use Rattle.axis.specs.declared.Axis.{Axis}
 use Rattle.axis.specs.Axis.{inForceOn, Ready}
 use Rattle.axis.proofs.AxisLaws.{ready-of, outside-of, stands-none}

@@ -11,9 +11,6 @@ answer-spec =
     (tie.spec
     (λ c. search (needs, outcomes))
     (λ c. search (needs, outcomes))
-    (λ c κs. search (needs, outcomes))
-    (λ c. search (needs, outcomes))
-    (λ c. search (needs, outcomes))
-    (λ c κs. search (needs, outcomes))
-    (λ c. search (needs, outcomes))
+    (λ c κs. search needs)
+    (λ c. search needs)
     (λ c. search (needs, outcomes)))

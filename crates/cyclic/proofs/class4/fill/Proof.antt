@@ -10,14 +10,10 @@ fill-spec =
     tie.close
     (tie.spec
     (λ c κs. search needs)
-    (λ c. search needs)
-    (λ c κs. search needs)
-    (λ c κs. search (needs, four))
     (λ c κs. search needs)
     (λ c κs. search needs)
-    (λ c. search needs)
+    (λ c κs. search needs)
     (λ c. search needs)
     (λ c. search (needs, four))
     (λ c. search needs)
-    (λ c. search (needs, four))
     (λ c. search (needs, four)))

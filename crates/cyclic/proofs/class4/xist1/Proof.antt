@@ -9,7 +9,6 @@ pub xist1-spec : {M : Type 1} → statement M
 xist1-spec =
     tie.close
     (tie.spec
-    (λ c κs. search needs)
     (λ c. search needs)
     (λ c κs. search needs)
     (λ c. search (needs, four))

@@ -1,15 +1,7 @@
--- By the laws of Class4Laws, one for each way out.
+-- By the test of acknowledge.
 -- Assumes nothing.
-use borrow.Author.Needs.{needs}
-use Rattle.link.proofs.Class4Laws.{four}
 use Rattle.link.proofs.class4.held.Statement.{statement}
 use Rattle.link.proofs.class4.held.Tie as tie
 
 pub held-spec : {M : Type 1} → statement M
-held-spec =
-    tie.close
-    (tie.spec
-    (λ c κs. search needs)
-    (λ c κs. search needs)
-    (λ c. search (needs, four))
-    (λ c. search (needs, four)))
+held-spec = tie.close (tie.spec (λ c. rw (c .if1 .taken)) (λ c. rw (c .if1 .left)))

@@ -1,4 +1,4 @@
--- By the laws of PlaceLaws.
+-- By the laws of PlaceLaws, one for each way out.
 -- Assumes nothing.
 use borrow.Author.Needs.{needs}
 use Rattle.travel.proofs.PlaceLaws.{places}
@@ -9,7 +9,6 @@ pub advanced-spec : {M : Type 1} → statement M
 advanced-spec =
     tie.close
     (tie.spec
-    (λ c κs. search needs)
     (λ c κs. search needs)
     (λ c κs. search needs)
     (λ c. search (needs, places)))

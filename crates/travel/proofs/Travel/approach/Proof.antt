@@ -12,6 +12,4 @@ approach-spec =
     (λ c κs. search needs)
     (λ c. search (needs, readings))
     (λ c κs. search (needs, readings))
-    (λ c. search (needs, readings))
-    (λ c κs. search (needs, readings))
     (λ c. search (needs, readings)))

@@ -27,6 +27,7 @@ follow-spec =
     (λ c. search (needs, walks))
     (λ c κs. search (needs, walks))
     (λ c κs. search (needs, walks))
+    (λ c κs. search (needs, walks))
     (λ c. search (needs, walks))
     (λ c. search (needs, walks))
     (λ c. search (needs, walks))

@@ -1,7 +1,7 @@
 -- By the laws of TravelLaws, one for each way out.
 -- Assumes nothing.
 use borrow.Author.Needs.{needs}
-use Rattle.travel.proofs.TravelLaws.{readings}
+use Rattle.travel.proofs.TravelLaws.{moves}
 use Rattle.travel.proofs.Travel.moved.Statement.{statement}
 use Rattle.travel.proofs.Travel.moved.Tie as tie
 
@@ -10,8 +10,8 @@ moved-spec =
     tie.close
     (tie.spec
     (λ c κs. search needs)
-    (λ c. search (needs, readings))
-    (λ c κs. search (needs, readings))
-    (λ c. search (needs, readings))
-    (λ c κs. search (needs, readings))
-    (λ c. search (needs, readings)))
+    (λ c. search needs)
+    (λ c κs. search (needs, moves))
+    (λ c. search needs)
+    (λ c. search (needs, moves))
+    (λ c. search (needs, moves)))

@@ -1,4 +1,4 @@
--- By the laws of PlaceLaws.
+-- By the laws of PlaceLaws, one for each way out.
 -- Assumes nothing.
 use borrow.Author.Needs.{needs}
 use Rattle.travel.proofs.PlaceLaws.{places}
@@ -10,8 +10,8 @@ units-spec =
     tie.close
     (tie.spec
     (λ c. search needs)
-    (λ c. search (needs, places))
     (λ c. search needs)
+    (λ c. search (needs, places))
     (λ c. search needs)
     (λ c. search needs)
     (λ c. search (needs, places))

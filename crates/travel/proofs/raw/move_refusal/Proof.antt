@@ -11,6 +11,5 @@ move-refusal-spec =
     (tie.spec
     (λ c. search (needs, sensors))
     (λ c κs. search needs)
-    (λ c. search needs)
-    (λ c. search (needs, sensors))
+    (λ c κs. search needs)
     (λ c. search (needs, sensors)))

@@ -10,10 +10,5 @@ move-to-spec =
     tie.close
     (tie.spec
     (λ c κs. search needs)
-    (λ c. search needs)
-    (λ c. search needs)
-    (λ c. search (needs, sensors))
-    (λ c. search needs)
-    (λ c. search needs)
-    (λ c. search (needs, sensors))
+    (λ c κs. search needs)
     (λ c. search (needs, sensors)))

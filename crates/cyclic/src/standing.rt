@@ -1,0 +1,77 @@
+// What a cycle does to an axis within its limits, under what is in force: the raw number, the preset, and where the axis then stands.
+ghost use mathlib.Core.Path.{_≡_};
+ghost use Rattle.axis.specs.Axis.{Ready};
+ghost use Rattle.axis.specs.Reading.{readRaw};
+ghost use Rattle.link.specs.Reaction.{Possible};
+ghost use Rattle.cyclic.specs.Preset.{presetBy, standing};
+use axis::Axis;
+use axis::Next;
+use encoder::effect::InForce;
+use encoder::quantity::Units;
+use link::Preset;
+use shift::offset_by;
+use travel::Moved;
+use travel::Reported;
+
+// An axis and its two positions.
+pub(crate) struct Standing {
+    pub axis: Axis,
+    pub position: Units,
+    pub unshifted: Units,
+}
+
+// The axis at the raw number, or as it was beside the number of the refusal.
+pub(crate) fn take(axis: Axis, rules: InForce, raw: u32) -> Next
+    requires { ⌜ Ready axis rules ⌝ }
+    ensures { λ r. ⌜ (r ≡ readRaw axis raw) × Ready (r .axis) rules ⌝ }
+{
+    let mut next = axis;
+    let travel = axis.travel;
+    match travel.moved(rules, raw) {
+        Moved::To(here) => {
+            next.travel = here;
+            Next {
+                axis: next,
+                refusal: 0,
+            }
+        }
+        Moved::Refused(n) => Next { axis, refusal: n },
+    }
+}
+
+// The axis with the preset, if one is made. The position is scaled once: after a preset it is the unshifted one and the new offset.
+pub(crate) fn preset(axis: Axis, rules: InForce, asked: Preset) -> Standing
+    requires { ⌜ Ready axis rules × Possible rules asked ⌝ }
+    ensures { λ r. ⌜ r ≡ standing (presetBy axis asked) ⌝ }
+{
+    let mut next = axis;
+    let travel = axis.travel;
+    match travel.reported(rules, axis.offset) {
+        Reported::At {
+            position,
+            unshifted,
+        } => {
+            if !asked.made {
+                return Standing {
+                    axis,
+                    position,
+                    unshifted,
+                };
+            }
+            let offset = offset_by(asked.value, asked.relative, position, unshifted, rules.span);
+            next.offset = offset;
+            next.preset = asked.value;
+            Standing {
+                axis: next,
+                position: Units((unshifted.0 as i64 + offset) as u32),
+                unshifted,
+            }
+        }
+        // never: the axis is within its limits
+        Reported::Refused(_) => Standing {
+            axis,
+            position: Units(0),
+            unshifted: Units(0),
+        },
+    }
+}

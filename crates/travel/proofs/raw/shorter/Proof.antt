@@ -1,0 +1,18 @@
+-- By the laws of SensorLaws, one for each way out.
+-- Assumes nothing.
+use borrow.Author.Needs.{needs}
+use Rattle.travel.proofs.SensorLaws.{sensors}
+use Rattle.travel.proofs.raw.shorter.Statement.{statement}
+use Rattle.travel.proofs.raw.shorter.Tie as tie
+
+pub shorter-spec : {M : Type 1} → statement M
+shorter-spec =
+    tie.close
+    (tie.spec
+    (λ c. search needs)
+    (λ c. search needs)
+    (λ c. search (needs, sensors))
+    (λ c. search needs)
+    (λ c. search needs)
+    (λ c. search (needs, sensors))
+    (λ c. search (needs, sensors)))

@@ -1,0 +1,71 @@
+// Whether two answers of a call agree: the number of the refusal, and each field of the axis that is left.
+use axis::Axis;
+use axis::Next;
+use encoder::nameplate::Nameplate;
+use encoder::parameters::Parameters;
+use travel::Travel;
+
+pub(crate) fn same(a: Next, b: Next) -> bool {
+    let axis_a = a.axis;
+    let axis_b = b.axis;
+    (a.refusal == b.refusal) & axes(axis_a, axis_b)
+}
+
+fn axes(a: Axis, b: Axis) -> bool {
+    let plate_a = a.nameplate;
+    let plate_b = b.nameplate;
+    let sent_a = a.parameters;
+    let sent_b = b.parameters;
+    let travel_a = a.travel;
+    let travel_b = b.travel;
+    plates(plate_a, plate_b)
+        & parameters(sent_a, sent_b)
+        & travels(travel_a, travel_b)
+        & (a.offset == b.offset)
+        & (a.preset == b.preset)
+        & (a.stored == b.stored)
+}
+
+fn plates(a: Nameplate, b: Nameplate) -> bool {
+    let software_a = a.software;
+    let software_b = b.software;
+    let serial_a = a.serial;
+    let serial_b = b.serial;
+    (a.steps.0 == b.steps.0)
+        & (a.turns.0 == b.turns.0)
+        & (a.ident == b.ident)
+        & versions(software_a, software_b)
+        & serials(serial_a, serial_b)
+}
+
+// Each takes its arrays as parameters: of a field that was copied the check does not know the length.
+fn versions(a: [u8; 2], b: [u8; 2]) -> bool {
+    check::same(&a, &b)
+}
+
+fn serials(a: [u8; 10], b: [u8; 10]) -> bool {
+    check::same(&a, &b)
+}
+
+fn parameters(a: Parameters, b: Parameters) -> bool {
+    let f = a.fields();
+    let g = b.fields();
+    (f.four == g.four)
+        & (f.operating == g.operating)
+        & (f.units.0 == g.units.0)
+        & (f.range.0 == g.range.0)
+        & (f.speed == g.speed)
+        & (life(a) == life(b))
+}
+
+// The one field that `fields` leaves out: class 2 has none.
+fn life(parameters: Parameters) -> u8 {
+    match parameters {
+        Parameters::Class4 { life, .. } => life,
+        Parameters::Class2 { .. } => 0,
+    }
+}
+
+fn travels(a: Travel, b: Travel) -> bool {
+    (a.place.0 == b.place.0) & (a.last.0 == b.last.0)
+}
