@@ -7,7 +7,6 @@ use mathlib.Core.List.{List, [], _∷_, _++_, append-assoc, append-nil}
 use Prim.Native.Nat.{ℕ, zero, suc, _+_, _≤_, _<_}
 use native.Mathlib.Numerals.{add-one}
 use native.Mathlib.Omega.{arith}
-use native.Mathlib.Nat as N
 use lib.IntN.{ℤ}
 use lib.ListN.{length, getD, take, drop, set, length-set, drop-of-length-le}
 use lib.Seq.{drop-cons, take-suc-set, take-all}
@@ -56,17 +55,11 @@ pub record Going (f : InForce) (offset : ℤ) (k₀ : Travel) (s : List ℕ) (k 
   pub writes : take i out ++ positionsIn f offset k (drop i s) ≡ positionsIn f offset k₀ s
 
 -- every reading of a list that is not refused is one of the sensor's
-raw-of : (f : InForce) (last : ℕ) (s : List ℕ) (i : ℕ) → refusalIn f last s ≡ 0 → i < length s → getD s i 0 < f .capacity .0
+pub raws-lt : (f : InForce) (last : ℕ) (s : List ℕ) (i : ℕ) → refusalIn f last s ≡ 0 → i < length s → getD s i 0 < f .capacity .0
 unfolding refusalIn
-raw-of f last [] i e h = absurd (omega arith)
-raw-of f last (raw ∷ raws) zero e h = raw-lt f last raw (before-none (moveRefusal f last raw) (refusalIn f raw raws) e .0)
-raw-of f last (raw ∷ raws) (suc i) e h = raw-of f raw raws i (before-none (moveRefusal f last raw) (refusalIn f raw raws) e .1) (omega arith)
-
-pub zero-le : (n : ℕ) → 0 ≤ n
-zero-le n = omega arith
-
-pub raws-lt : (f : InForce) (last : ℕ) (s : List ℕ) (i j : ℕ) → refusalIn f last s ≡ 0 → i < length s → j ≤ i → getD s j 0 < f .capacity .0
-raws-lt f last s i j e h k = raw-of f last s j e (omega arith)
+raws-lt f last [] i e h = absurd (omega arith)
+raws-lt f last (raw ∷ raws) zero e h = raw-lt f last raw (before-none (moveRefusal f last raw) (refusalIn f raw raws) e .0)
+raws-lt f last (raw ∷ raws) (suc i) e h = raws-lt f raw raws i (before-none (moveRefusal f last raw) (refusalIn f raw raws) e .1) (omega arith)
 
 -- the move as the machine reads it back
 pub going-move : (f : InForce) (k : Travel) (raw : ℕ) (d : ℤ) → Inside f k → d ≡ moveOf f (k .last .0) raw → toZ w64 (ofZ w64 d) ≡ moveOf f (k .last .0) raw
@@ -118,7 +111,7 @@ pub going-positions : (f : InForce) (offset : ℤ) (k₀ : Travel) (s : List ℕ
     → Going f (toZ w64 (ofZ w64 offset)) k₀ s k i out → length s ≤ i → out ≡ positionsIn f offset k₀ s
 going-positions f offset k₀ s k i out fits g h = rw (reads fits) at (going-list f (toZ w64 (ofZ w64 offset)) k₀ s k i out g h)
 
-pub ruleset walks = (N.le-refl, zero-le, raws-lt, going-move, going-start, going-inside, going-more, going-travel, going-positions)
+pub ruleset walks = (raws-lt, going-move, going-start, going-inside, going-more, going-travel, going-positions)
 
 -- ---- the ways out: by the tests a of the limits and b of the offset, and the number n of the first refusal
 in-range-is : (offset : ℤ) (span : ℕ) (b : Bool) → SFits w64 offset → b ≡ inRange (toZ w64 (ofZ w64 offset)) span → inRange offset span ≡ b
