@@ -10,7 +10,7 @@ enum { CLASS2 = 0, CLASS4 = 1 };
 /* Nameplate and parameters of a carriage. */
 struct carriage {
     uint32_t steps, turns;
-    uint8_t four, operating;
+    uint8_t class4, operating;
     uint32_t units, range;
     uint8_t life, speed;
 };
@@ -18,7 +18,7 @@ struct carriage {
 /* Starts the carriage at `first`, reads so many raw numbers, and prints each position, or the refusal and the list as it was left. */
 static void show(const char *what, struct carriage k, uint32_t first, const uint32_t *raws, size_t length) {
     uint32_t positions[4] = {7, 7, 7, 7};
-    uint8_t refusal = encoder_batch(k.steps, k.turns, k.four, k.operating, k.units, k.range, k.life, k.speed, first, raws, length,
+    uint8_t refusal = encoder_batch(k.steps, k.turns, k.class4, k.operating, k.units, k.range, k.life, k.speed, first, raws, length,
                                     positions, length);
     printf("%s:", what);
     if (refusal != 0)
@@ -42,13 +42,13 @@ int main(void) {
     /* octets 9 to 17 as document 01 has them, on a plate of ident 1234h */
     uint8_t telegram[17] = {0, 0, 0, 0, 0x12, 0x34, 0, 0, 0x0A, 0, 0, 0x03, 0xE8, 0, 0x3E, 0x80, 0};
     uint8_t block[11] = {0x2A, 0, 0, 0x03, 0xE8, 0, 0x3E, 0x80, 0, 3, 1};
-    uint32_t two[3] = {7, 7, 7}, four[5] = {7, 7, 7, 7, 7};
-    numbers("telegram", encoder_read_telegram(4096, 4096, 0x1234, telegram, 17, two, 3), two, 3);
-    numbers("block", encoder_read_block(4096, 4096, block, 11, four, 5), four, 5);
+    uint32_t sent2[3] = {7, 7, 7}, sent4[5] = {7, 7, 7, 7, 7};
+    numbers("telegram", encoder_read_telegram(4096, 4096, 0x1234, telegram, 17, sent2, 3), sent2, 3);
+    numbers("block", encoder_read_block(4096, 4096, block, 11, sent4, 5), sent4, 5);
 
-    struct carriage bench = {4096, 4096, CLASS2, (uint8_t)two[0], two[1], two[2], 0, 0};
+    struct carriage bench = {4096, 4096, CLASS2, (uint8_t)sent2[0], sent2[1], sent2[2], 0, 0};
     show("bench", bench, 0, (const uint32_t[]){5, 6144}, 2);
-    struct carriage new_bench = {4096, 4096, CLASS4, (uint8_t)four[0], four[1], four[2], (uint8_t)four[3], (uint8_t)four[4]};
+    struct carriage new_bench = {4096, 4096, CLASS4, (uint8_t)sent4[0], sent4[1], sent4[2], (uint8_t)sent4[3], (uint8_t)sent4[4]};
     show("class 4", new_bench, 0, (const uint32_t[]){5, 6144}, 2);
     struct carriage reversed = bench;
     reversed.operating = 0x0B;
@@ -68,9 +68,9 @@ int main(void) {
     struct carriage range = bench;
     range.range = 999;
     show("total range 999", range, 0, (const uint32_t[]){5}, 1);
-    two[0] = two[1] = two[2] = 7;
-    numbers("16 octets", encoder_read_telegram(4096, 4096, 0x1234, telegram, 16, two, 3), two, 3);
-    numbers("another ident", encoder_read_telegram(4096, 4096, 0x1235, telegram, 17, two, 3), two, 3);
-    numbers("a list too short", encoder_read_telegram(4096, 4096, 0x1234, telegram, 17, two, 2), two, 3);
+    sent2[0] = sent2[1] = sent2[2] = 7;
+    numbers("16 octets", encoder_read_telegram(4096, 4096, 0x1234, telegram, 16, sent2, 3), sent2, 3);
+    numbers("another ident", encoder_read_telegram(4096, 4096, 0x1235, telegram, 17, sent2, 3), sent2, 3);
+    numbers("a list too short", encoder_read_telegram(4096, 4096, 0x1234, telegram, 17, sent2, 2), sent2, 3);
     return 0;
 }

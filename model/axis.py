@@ -36,8 +36,8 @@ class Link:
 class Axis:
     """The record: fields may be set to anything from outside."""
 
-    def __init__(self, four, r, t, octet, units, total, life=0, speed=0):
-        self.four, self.r, self.t, self.octet, self.units, self.total = four, r, t, octet, units, total
+    def __init__(self, class4, r, t, octet, units, total, life=0, speed=0):
+        self.class4, self.r, self.t, self.octet, self.units, self.total = class4, r, t, octet, units, total
         self.life, self.speed = life, speed
         self.place, self.last = 0, 2**64 - 1  # not started
         self.offset = self.preset = self.held = 0
@@ -49,14 +49,14 @@ class Axis:
         bit = lambda n: self.octet >> n & 1
         if not (2 <= self.r <= 65536 and 1 <= self.t <= 32768):
             return 7
-        if bit(6) or bit(7) or (not bit(5) if self.four else bit(4) or bit(5)):
+        if bit(6) or bit(7) or (not bit(5) if self.class4 else bit(4) or bit(5)):
             return 3
         if bit(1) and bit(3):
             if self.units == 0 or self.units > self.r:
                 return 4
             if self.total < self.units or self.total > self.units * self.t:
                 return 5
-        if self.four and self.speed > 3:
+        if self.class4 and self.speed > 3:
             return 6
         return 0
 
@@ -82,7 +82,7 @@ class Axis:
 
     # "The axis", rule by rule
     def oriented(self, raw):
-        obeyed = self.octet & 1 == 1 and (self.on or not self.four)
+        obeyed = self.octet & 1 == 1 and (self.on or not self.class4)
         return (self.c - raw) % self.c if obeyed else raw
 
     def unshifted(self):
@@ -174,7 +174,7 @@ class Axis:
         if e == 0:
             raise Refused(ELAPSED)
         d = self.move(self.raw(s, t))
-        unit = self.speed if self.four else 0
+        unit = self.speed if self.class4 else 0
         top = d * 60000 if unit == 3 else d * self.m * (1000, 100, 10)[unit]
         return max(-(2**31), min(2**31 - 1, cut(top, self.r * e)))
 
@@ -190,10 +190,10 @@ class Axis:
     def cycle(self, raw, out, given):
         """The input octets."""
         self.standing()
-        if len(out) != 4 or len(given) != (12 if self.four else 4):
+        if len(out) != 4 or len(given) != (12 if self.class4 else 4):
             raise Refused(BUFFER)
         self.link.faulty = self.take(raw)
-        return self.cycle4(out) if self.four else self.cycle2(int.from_bytes(out, "big"))
+        return self.cycle4(out) if self.class4 else self.cycle2(int.from_bytes(out, "big"))
 
     def cycle2(self, word):
         k, asks, v = self.link, word // 2**31, word % 2**31
@@ -238,7 +238,7 @@ class Axis:
 
         octets[7] = {57: 0x39, 10: 0x0A}[size]
         octets[8] = self.link.faulty
-        octets[9] = self.octet & 0b1011 if self.four else self.octet
+        octets[9] = self.octet & 0b1011 if self.class4 else self.octet
         octets[10] = 0 if self.t == 1 else 1
         put(11, 14, self.r)
         put(15, 16, self.t)
@@ -258,7 +258,7 @@ class Axis:
 # ---- the vectors
 def axis_line(a):
     numbers = f"{a.r} {a.t} 0000 {a.octet:02x} {a.units} {a.total}"
-    return f"axis  4  {numbers} {a.life} {a.speed}" if a.four else f"axis  2  {numbers}"
+    return f"axis  4  {numbers} {a.life} {a.speed}" if a.class4 else f"axis  2  {numbers}"
 
 
 def shown(a):
@@ -343,7 +343,7 @@ class Script:
         pick = lambda p: 1 if self.random.random() < p else 0
         if self.random.random() < 0.04:
             return bytes(self.random.randrange(256) for _ in range(self.random.choice([3, 5])))
-        if not a.four:
+        if not a.class4:
             v = self.random.choice([0, 1, a.span - 1, a.span, a.span + 1, self.random.randrange(a.span)])
             return (pick(0.6) * 2**31 + v % 2**31).to_bytes(4, "big")
         stw = sum(pick(p) * 2**n for n, p in ((15, 0.4), (14, 0.2), (13, 0.5), (12, 0.6), (11, 0.5)))
@@ -354,7 +354,7 @@ class Script:
         raw, out = self.number(a), self.output(a)
         if self.random.random() < 0.3:
             raw = a.c if self.random.random() < 0.5 else a.last
-        given = b"\xee" * (12 if a.four else 4)
+        given = b"\xee" * (12 if a.class4 else 4)
         if self.random.random() < 0.04:
             given = given[1:]
         self.lines.append(" ".join(["exchange", str(len(given)), str(raw)] + [f"{o:02x}" for o in out]))
@@ -439,20 +439,20 @@ class Script:
 
 def small(rng):
     r, t = rng.randint(2, 12), rng.randint(1, 6)
-    four = rng.random() < 0.5
+    class4 = rng.random() < 0.5
     units = rng.randint(1, r)
     total = rng.choice([units, units * t, rng.randint(units, units * t)])
     on, scaling, ccw = rng.random() < 0.9, rng.random() < 0.8, rng.random() < 0.4
-    octet = (32 if four else 0) | 2 * on | 8 * scaling | ccw
-    return Axis(four, r, t, octet, units, total, rng.randrange(256), rng.randrange(4))
+    octet = (32 if class4 else 0) | 2 * on | 8 * scaling | ccw
+    return Axis(class4, r, t, octet, units, total, rng.randrange(256), rng.randrange(4))
 
 
 def large(rng):
-    four = rng.random() < 0.5
+    class4 = rng.random() < 0.5
     units = rng.choice([65536, 65535, rng.randint(1, 65536)])
     total = rng.choice([units, units * 32768, rng.randint(units, units * 32768)])
-    octet = (32 if four else 0) | 10 | (rng.random() < 0.4)
-    return Axis(four, 65536, 32768, octet, units, total, 1, rng.randrange(4))
+    octet = (32 if class4 else 0) | 10 | (rng.random() < 0.4)
+    return Axis(class4, 65536, 32768, octet, units, total, 1, rng.randrange(4))
 
 
 def vectors():

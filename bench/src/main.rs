@@ -23,13 +23,13 @@ type Batch = fn(Plate, Parameters, u32, &[u32], &mut [u32]) -> u8;
 
 fn linked(plate: Plate, sent: Parameters, first: u32, raws: &[u32], positions: &mut [u32]) -> u8 {
     let (from, to) = (raws.as_ptr(), positions.as_mut_ptr());
-    let Parameters { four, operating, units, range, life, speed } = sent;
+    let Parameters { class4, operating, units, range, life, speed } = sent;
     // SAFETY: both pointers come from slices of the lengths given, which do not overlap.
     unsafe {
         encoder_batch(
             plate.steps,
             plate.turns,
-            four,
+            class4,
             operating,
             units,
             range,
@@ -67,7 +67,7 @@ fn kinds() -> Vec<Kind> {
 /// 1000 units a turn and a total range of 400 turns, or the sensor's own steps.
 fn parameters(kind: Kind) -> Parameters {
     let operating = if kind.scaling == "on" { 0x0A } else { 0x02 } + if kind.way == "ccw" { 1 } else { 0 };
-    Parameters { four: 0, operating, units: 1000, range: 400_000, life: 0, speed: 0 }
+    Parameters { class4: 0, operating, units: 1000, range: 400_000, life: 0, speed: 0 }
 }
 
 /// Up to 4000 steps either way, drawn by xorshift from a fixed seed, or 37 steps each time.

@@ -14,9 +14,9 @@ struct Force {
 
 fn force(plate: Plate, sent: Parameters) -> Result<Force, u8> {
     let (r, t) = (u64::from(plate.steps), u64::from(plate.turns));
-    let (units, range, octet, four) = (u64::from(sent.units), u64::from(sent.range), sent.operating, sent.four != 0);
+    let (units, range, octet, class4) = (u64::from(sent.units), u64::from(sent.range), sent.operating, sent.class4 != 0);
     let (on, scaling) = (octet & 0x02 != 0, octet & 0x0A == 0x0A);
-    if if four { octet & 0xE0 != 0x20 } else { octet & 0xF0 != 0 } {
+    if if class4 { octet & 0xE0 != 0x20 } else { octet & 0xF0 != 0 } {
         return Err(3);
     }
     if scaling && (units == 0 || units > r) {
@@ -25,11 +25,11 @@ fn force(plate: Plate, sent: Parameters) -> Result<Force, u8> {
     if scaling && (range < units || range > units * t) {
         return Err(5);
     }
-    if four && sent.speed > 3 {
+    if class4 && sent.speed > 3 {
         return Err(6);
     }
     let (m, l) = if scaling { (units, range) } else { (r, r * t) };
-    Ok(Force { r, c: r * t, m, l, reversed: octet & 0x01 != 0 && (on || !four) })
+    Ok(Force { r, c: r * t, m, l, reversed: octet & 0x01 != 0 && (on || !class4) })
 }
 
 fn plate_fits(plate: Plate) -> bool {

@@ -13,8 +13,8 @@ const TELEGRAM: u64 = 2;
 pub fn batch(seed: u64, index: u64) -> Batch {
     let mut draw = Draw::new(seed, BATCH, index);
     let plate = draw.plate();
-    let four = draw.four();
-    let parameters = draw.parameters(plate, four);
+    let class4 = draw.class4();
+    let parameters = draw.parameters(plate, class4);
     let first = draw.first(plate);
     let raws = draw.raws(plate, first);
     let positions_length = raws.len();
@@ -26,12 +26,12 @@ pub fn batch(seed: u64, index: u64) -> Batch {
 pub fn telegram(seed: u64, index: u64) -> Telegram {
     let mut draw = Draw::new(seed, TELEGRAM, index);
     let plate = draw.plate();
-    let four = draw.four();
-    let mut parameters = draw.parameters(plate, four);
+    let class4 = draw.class4();
+    let mut parameters = draw.parameters(plate, class4);
     if draw.chance(20) {
         draw.damage_parameters(plate, &mut parameters);
     }
-    let (block, ident) = (four != 0, draw.next() as u16);
+    let (block, ident) = (class4 != 0, draw.next() as u16);
     let octets = if block { block_of(&parameters) } else { draw.telegram_of(&parameters, ident) };
     let parameters_length = if block { 5 } else { 3 };
     let mut case = Telegram { block, plate, ident, octets, parameters_length };
@@ -119,14 +119,14 @@ impl Draw {
     }
 
     /// 0 is class 2, every other number class 4.
-    fn four(&mut self) -> u8 {
+    fn class4(&mut self) -> u8 {
         let any = self.next() as u8;
         self.pick(&[0, 0, 1, any])
     }
 
     /// Acceptable parameters of the class. Without class and scaling bit both, the fields may hold anything.
-    fn parameters(&mut self, plate: Plate, four: u8) -> Parameters {
-        let mut operating = self.operating(four);
+    fn parameters(&mut self, plate: Plate, class4: u8) -> Parameters {
+        let mut operating = self.operating(class4);
         let mut units = self.units(plate);
         let mut range = self.range(plate, units);
         if self.chance(65) {
@@ -137,14 +137,14 @@ impl Draw {
             (units, range) =
                 self.pick(&[any, any, (0, 0), (u32::MAX, 0), (plate.steps + 1, any.1), (units, units - 1)]);
         }
-        let speed = if four == 0 { self.next() as u8 } else { self.between(0, 3) as u8 };
-        Parameters { four, operating, units, range, life: self.next() as u8, speed }
+        let speed = if class4 == 0 { self.next() as u8 } else { self.between(0, 3) as u8 };
+        Parameters { class4, operating, units, range, life: self.next() as u8, speed }
     }
 
     /// Octet 9 or block octet 1 with the reserved bits as they must be and the others as they come.
-    fn operating(&mut self, four: u8) -> u8 {
+    fn operating(&mut self, class4: u8) -> u8 {
         let any = self.next() as u8;
-        if four == 0 {
+        if class4 == 0 {
             any & 0b0000_1111
         } else {
             any & 0b0001_1111 | 0b0010_0000
@@ -169,7 +169,7 @@ impl Draw {
     fn damage_parameters(&mut self, plate: Plate, sent: &mut Parameters) {
         loop {
             match self.between(0, 3) {
-                0 => sent.operating ^= 1 << self.between(if sent.four == 0 { 4 } else { 5 }, 7),
+                0 => sent.operating ^= 1 << self.between(if sent.class4 == 0 { 4 } else { 5 }, 7),
                 1 => sent.units = self.pick(&[0, plate.steps + 1, u32::MAX]),
                 2 => {
                     let most = u64::from(sent.units) * u64::from(plate.turns);

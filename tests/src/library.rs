@@ -6,7 +6,7 @@ extern "C" {
     pub fn encoder_batch(
         steps: u32,
         turns: u32,
-        four: u8,
+        class4: u8,
         operating: u8,
         units: u32,
         range: u32,
@@ -83,7 +83,7 @@ pub fn batch(call: &Batch) -> Answer {
             encoder_batch(
                 plate.steps,
                 plate.turns,
-                sent.four,
+                sent.class4,
                 sent.operating,
                 sent.units,
                 sent.range,

@@ -21,10 +21,10 @@ pub struct Plate {
     pub turns: u32,
 }
 
-/// Parameters of either class, as sent. `four` 0 is class 2, which has neither `life` nor `speed`.
+/// Parameters of either class, as sent. `class4` 0 is class 2, which has neither `life` nor `speed`.
 #[derive(Clone, Copy, Debug)]
 pub struct Parameters {
-    pub four: u8,
+    pub class4: u8,
     pub operating: u8,
     pub units: u32,
     pub range: u32,
@@ -89,7 +89,7 @@ impl Plate {
 
 impl Parameters {
     fn is_class_four(&self) -> bool {
-        self.four != 0
+        self.class4 != 0
     }
 
     fn class_on(&self) -> bool {
@@ -225,7 +225,7 @@ fn read_telegram(call: &Telegram) -> Result<Vec<u32>, u8> {
     refuse_if(octets.len() != 17, LENGTH)?;
     refuse_if(number(octets, 5, 6) != u32::from(call.ident), IDENT)?;
     let (units, range) = (number(octets, 10, 13), number(octets, 14, 17));
-    let parameters = Parameters { four: 0, operating: octet(octets, 9), units, range, life: 0, speed: 0 };
+    let parameters = Parameters { class4: 0, operating: octet(octets, 9), units, range, life: 0, speed: 0 };
     parameters.check(&call.plate)?;
     Ok(vec![u32::from(parameters.operating), units, range])
 }
@@ -237,7 +237,7 @@ fn read_block(call: &Telegram) -> Result<Vec<u32>, u8> {
     refuse_if(octets.len() != 11, LENGTH)?;
     let (units, range) = (number(octets, 2, 5), number(octets, 6, 9));
     let (operating, life, speed) = (octet(octets, 1), octet(octets, 10), octet(octets, 11));
-    let parameters = Parameters { four: 1, operating, units, range, life, speed };
+    let parameters = Parameters { class4: 1, operating, units, range, life, speed };
     parameters.check(&call.plate)?;
     Ok(vec![u32::from(operating), units, range, u32::from(life), u32::from(speed)])
 }

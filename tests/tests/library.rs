@@ -41,7 +41,7 @@ fn telegrams() {
 /// From 0 on, 300,000 moves by `way` raw numbers. Where scaling is on, the range is one short of the sensor's.
 fn long_run(plate: Plate, operating: u8, way: u64) -> Batch {
     let all = plate.steps * plate.turns;
-    let parameters = Parameters { four: 0, operating, units: plate.steps, range: all - 1, life: 0, speed: 0 };
+    let parameters = Parameters { class4: 0, operating, units: plate.steps, range: all - 1, life: 0, speed: 0 };
     let raws: Vec<u32> = (1..=300_000).map(|entry| (entry * way % u64::from(all)) as u32).collect();
     Batch { plate, parameters, first: 0, positions_length: raws.len(), raws }
 }
@@ -68,7 +68,7 @@ type Answer = Result<Vec<u32>, u8>;
 fn bench(first: u32, raws: &[u32]) -> Batch {
     Batch {
         plate: Plate { steps: 4096, turns: 4096 },
-        parameters: Parameters { four: 0, operating: 0x0A, units: 1000, range: 4_096_000, life: 0, speed: 0 },
+        parameters: Parameters { class4: 0, operating: 0x0A, units: 1000, range: 4_096_000, life: 0, speed: 0 },
         first,
         raws: raws.to_vec(),
         positions_length: raws.len(),
@@ -76,8 +76,8 @@ fn bench(first: u32, raws: &[u32]) -> Batch {
 }
 
 /// The same with other parameters, at raw number 6144.
-fn sent(four: u8, operating: u8, units: u32, range: u32) -> Batch {
-    let parameters = Parameters { four, operating, units, range, life: 0, speed: 0 };
+fn sent(class4: u8, operating: u8, units: u32, range: u32) -> Batch {
+    let parameters = Parameters { class4, operating, units, range, life: 0, speed: 0 };
     Batch { parameters, ..bench(6144, &[6144]) }
 }
 
@@ -113,7 +113,7 @@ fn with_range(range: u32, mut call: Batch) -> Batch {
 /// "Bench values" and "Traps on the bench", as far as they concern positions without a preset.
 fn bench_batches() -> Vec<(Batch, Answer)> {
     let counter_clockwise =
-        |four, operating| Batch { first: 1, raws: vec![1], ..sent(four, operating, 1000, 4_096_000) };
+        |class4, operating| Batch { first: 1, raws: vec![1], ..sent(class4, operating, 1000, 4_096_000) };
     let one_turn: Vec<u32> = (1..=4096).collect();
     vec![
         (bench(6144, &[6144]), Ok(vec![1500])),

@@ -1,10 +1,9 @@
-mod Distance
-mod Kept
+pub mod Kept
 pub mod Supposed
-mod Standing
-mod Presets
-mod Settled
+pub mod Standing
+pub mod Presets
 pub mod LimitsKept
+mod Settled
 mod Cycles
 mod Inputs
 mod Steps

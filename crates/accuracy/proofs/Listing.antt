@@ -4,6 +4,7 @@ use mathlib.Core.Path.{_≡_, refl}
 use mathlib.Core.List.{[], _∷_}
 use Prim.Native.Nat.{ℕ}
 use lib.IntN.{ℤ}
+use Rattle.encoder.specs.Nameplate.{plateRefusal}
 use Rattle.encoder.specs.Parameters.{fieldsRefusal, refusalOn}
 use Rattle.sensor.specs.Reading.{stepRefusal}
 use Rattle.travel.specs.declared.Reported.{Reported}
@@ -20,7 +21,7 @@ abbrev pub there : First
 there = firstReading 8 2
 
 pub started-there : startBy listing there ≡ 0
-unfolding startRefusal stepRefusal refusalOn fieldsRefusal
+unfolding startRefusal stepRefusal refusalOn plateRefusal fieldsRefusal
 started-there = refl
 
 abbrev pub begun : (p : Program) → p .State

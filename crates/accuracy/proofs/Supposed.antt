@@ -1,12 +1,12 @@
 -- What is supposed of the true steps says just this: they are the d of rule 3. So an accepted reading moves the axis by the true steps; and what is
 -- supposed can be met, for every raw number that is accepted.
 -- Assumes nothing.
-use mathlib.Core.Path.{_≡_}
+use mathlib.Core.Path.{_≡_, ap}
 use mathlib.Core.List.{List, [], _∷_}
-use Prim.Native.Nat.{ℕ, zero, suc, _+_}
+use Prim.Native.Nat.{ℕ, zero, suc, _+_, _*_}
 use lib.IntN.{ℤ, pos, _-ℤ_, _*ℤ_}
 use Rattle.integer.specs.Modulus.{_modulo_}
-use Rattle.integer.proofs.Signed.{above, below, signed, add-is, mul-is, of-eq}
+use Rattle.integer.proofs.Signed.{above, below, signed, add-is, diff-is, mul-is, of-eq}
 use Rattle.integer.proofs.Modulus.{modulo-has, modulo-alike}
 use Rattle.encoder.specs.InForce.{Sound}
 use Rattle.encoder.proofs.RefusalLaws.{before-none}
@@ -15,7 +15,6 @@ use Rattle.travel.specs.Batch.{refusalIn}
 use Rattle.travel.proofs.ShorterWay.{shorter-way, shorter-only}
 use Rattle.accuracy.specs.Ledger.{Device, force}
 use Rattle.accuracy.specs.Claim.{Shows, Supposed}
-use Rattle.accuracy.proofs.Distance.{is-less, is-times}
 
 -- rule 3's d, for raw numbers one after the other
 abbrev pub steps : Device → ℕ → List ℕ → ℕ → ℤ
@@ -48,8 +47,8 @@ module _ (d : Device) (s : Sound (force d)) where
       let p = modulo-has m {n = c} (s .capacity-least) in
       let q = modulo-has y {n = c} (s .capacity-least) in
       let t = pos (p .1 + q .0) -ℤ pos (p .0 + q .1) in
-      let i = is-times c (is-less (p .1 + q .0) (p .0 + q .1)) in
-      record { small = omega (signed, w .0); times = t; same = omega (signed, add-is y (t *ℤ pos c), i .is, p .2, q .2, w .1) }
+      let i = ap (λ (k : ℕ). k * c) (diff-is (pos (p .1 + q .0)) (pos (p .0 + q .1))) in
+      record { small = omega (signed, w .0); times = t; same = omega (signed, add-is y (t *ℤ pos c), mul-is t (pos c), p .2, q .2, w .1) }
 
   pub met : (last : ℕ) (raws : List ℕ) → refusalIn (force d) last raws ≡ 0 → Supposed d last raws (steps d last raws)
   unfolding refusalIn Supposed

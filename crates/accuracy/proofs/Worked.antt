@@ -4,6 +4,7 @@ use mathlib.Core.Path.{_≡_, refl}
 use Rattle.integer.specs.Modulus.{_modulo_}
 use Rattle.integer.specs.Octets.{bigEndian, octets}
 use Rattle.ring.specs.Ring.{inRange}
+use Rattle.encoder.specs.Nameplate.{plateRefusal}
 use Rattle.encoder.specs.Parameters.{fieldsRefusal, refusalOn}
 use Rattle.encoder.specs.InForce.{rulesOf, rulesFit}
 use Rattle.sensor.specs.Reading.{stepRefusal}
@@ -19,12 +20,12 @@ use Rattle.link.specs.Class2.{made as made2, link as link2}
 use Rattle.cyclic.specs.Class2.{axis as axis2, input as input2}
 use Rattle.link.specs.Class4.{held, made as made4, link as link4, zsw}
 use Rattle.cyclic.specs.Class4.{counted, axis as axis4, input as input4}
-use Rattle.cyclic.specs.Cycle.{fits, cycleRefusal, linkAfter, axisAfter, inputOf, cycle, cycleInput}
+use Rattle.cyclic.specs.Cycle.{lengthRefusal, cycleRefusal, linkAfter, axisAfter, inputOf, cycle, cycleInput}
 use Rattle.accuracy.specs.Ledger.{opened, moved}
 use Rattle.accuracy.specs.Worked.{listing, four, run2, run4, run4u, begun, traced}
 
 pub worked : (traced listing (begun listing 8 2) (opened listing 28) run2 ≡ run2)
     × (traced (four 0x2b) (begun (four 0x2b) 2 0) (opened (four 0x2b) 2) run4 ≡ run4)
     × (traced (four 0x2f) (begun (four 0x2f) 2 0) (opened (four 0x2f) 2) run4u ≡ run4u)
-unfolding _modulo_ bigEndian octets inRange fieldsRefusal refusalOn rulesOf rulesFit stepRefusal inside oriented started difference shorter moveOf moveRefusal movedTo unshifted positionAt travelRefusal refusalIn rulesOn acceptable axisRefusal unshiftedOf positionOf reported startRefusal start atRaw readRawRefusal readRaw readRefusal read valueRefusal presetRefusal asked presetted preset store firstRefusal after positionsOf batchRefusal batch batchList faultyAt takenAt made2 axis2 link2 input2 counted held made4 axis4 link4 zsw input4 fits cycleRefusal linkAfter axisAfter inputOf cycle cycleInput moved traced
+unfolding _modulo_ bigEndian octets inRange fieldsRefusal refusalOn plateRefusal rulesOf rulesFit stepRefusal inside oriented started difference shorter moveOf moveRefusal movedTo unshifted positionAt travelRefusal refusalIn rulesOn acceptable axisRefusal unshiftedOf positionOf reported startRefusal start atRaw readRawRefusal readRaw readRefusal read valueRefusal presetRefusal asked presetted preset store firstRefusal after positionsOf batchRefusal batch batchList faultyAt takenAt made2 axis2 link2 input2 counted held made4 axis4 link4 zsw input4 lengthRefusal cycleRefusal linkAfter axisAfter inputOf cycle cycleInput moved traced
 worked = (refl, refl, refl)

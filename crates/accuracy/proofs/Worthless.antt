@@ -12,6 +12,7 @@ use Rattle.integer.specs.Octets.{bigEndian, octets}
 use Rattle.integer.proofs.Signed.{apart}
 use Rattle.integer.proofs.Size.{abs-is}
 use Rattle.ring.specs.Ring.{inRange}
+use Rattle.encoder.specs.Nameplate.{plateRefusal}
 use Rattle.encoder.specs.Parameters.{fieldsRefusal, refusalOn}
 use Rattle.encoder.specs.InForce.{rulesOf, rulesFit}
 use Rattle.sensor.specs.Reading.{stepRefusal}
@@ -25,14 +26,14 @@ use Rattle.batch.specs.Batch.{firstRefusal, positionsOf, batchRefusal, batchLis
 use Rattle.cyclic.specs.Raw.{faultyAt, takenAt}
 use Rattle.link.specs.Class2.{made, link}
 use Rattle.cyclic.specs.Class2.{axis, input}
-use Rattle.cyclic.specs.Cycle.{fits, cycleRefusal, linkAfter, axisAfter, inputOf, cycle, cycleInput}
+use Rattle.cyclic.specs.Cycle.{lengthRefusal, cycleRefusal, linkAfter, axisAfter, inputOf, cycle, cycleInput}
+use Rattle.phase.proofs.Kept.{off-is}
 use Rattle.accuracy.specs.Calls.{Call, rawReading, batching, presetting, cycling}
 use Rattle.accuracy.specs.Ledger.{force, deed, moved}
 use Rattle.accuracy.specs.Claim.{Program, Supposed, off, Entries, readSingly, Accurate, Claim}
 use Rattle.accuracy.specs.Run.{library}
 use Rattle.accuracy.specs.Worthless.{at, always0, turnsAway, claimsHalfRange, ignoresReadings, ignoresPresets, copiesFirst, scalesAfresh, wrapsAtC, cutsPlace, addsRounded, alwaysAbsolute, presetsWhenFaulty, forgetsLink, showsFresh}
 use Rattle.accuracy.specs.Worked.{listing}
-use Rattle.accuracy.proofs.Distance.{is-self, off-is}
 use Rattle.accuracy.proofs.OneUnit.{told}
 use Rattle.accuracy.proofs.Listing.{first, there, started-there, begun, then, twice, steady, later, after, puts, lent, another}
 
@@ -62,7 +63,7 @@ reports : (then turnsAway (rawReading 4) ≡ at 1 1)
     × (showsFresh .lent (showsFresh .call (begun showsFresh) (asks 28 0)) (asks 28 3) ≡ 0 ∷ 0 ∷ 0 ∷ 3 ∷ [])
     × (copiesFirst .lent (begun copiesFirst) pass ≡ 3 ∷ 3 ∷ [])
     × (then library (rawReading 3) ≡ at 2 2)
-unfolding _modulo_ inRange bigEndian fieldsRefusal refusalOn rulesOf rulesFit inside oriented started difference shorter moveOf moveRefusal movedTo unshifted positionAt travelRefusal rulesOn acceptable axisRefusal unshiftedOf positionOf reported startRefusal start stepRefusal atRaw readRawRefusal readRaw valueRefusal presetRefusal asked presetted preset faultyAt takenAt made axis fits cycleRefusal axisAfter inputOf cycle cycleInput linkAfter link input octets firstRefusal positionsOf batchRefusal batchList
+unfolding _modulo_ inRange bigEndian fieldsRefusal refusalOn plateRefusal rulesOf rulesFit inside oriented started difference shorter moveOf moveRefusal movedTo unshifted positionAt travelRefusal rulesOn acceptable axisRefusal unshiftedOf positionOf reported startRefusal start stepRefusal atRaw readRawRefusal readRaw valueRefusal presetRefusal asked presetted preset faultyAt takenAt made axis lengthRefusal cycleRefusal axisAfter inputOf cycle cycleInput linkAfter link input octets firstRefusal positionsOf batchRefusal batchList
 reports = (refl, refl, refl, refl, refl, refl, refl, refl, refl, refl, refl, refl, refl, refl, refl, refl, refl)
 
 -- the true steps are as supposed
@@ -122,18 +123,18 @@ no-alwaysAbsolute h = omega (arith, put-1 alwaysAbsolute 1 1 h (reports .8) (rep
 
 -- ---- a faulty cycle: exact is still 8.4, which on the ring of 7 is 1.4
 pub no-presetsWhenFaulty : Claim presetsWhenFaulty → ⊥
-unfolding Supposed moved fits moveRefusal rulesOf oriented
+unfolding Supposed moved lengthRefusal moveRefusal rulesOf oriented
 no-presetsWhenFaulty h =
     let t = told listing (later presetsWhenFaulty (asks 30 0) (pos 0)) 0 (rw (reports .10) at (after presetsWhenFaulty h (asks 30 0) (pos 0) tt)) in
     omega arith
 
 -- ---- a preset to 0 is made by a rise, and none by the bit that stays up: exact is still 0
 stands-still : Supposed listing 28 (deed listing first (asks 28 0) .numbers) (steady (pos 0))
-unfolding Supposed fits moveRefusal difference oriented _modulo_ rulesOf
+unfolding Supposed lengthRefusal moveRefusal difference oriented _modulo_ rulesOf
 stands-still = (record { small = omega arith; times = pos 0; same = refl }, tt)
 
 no-second : (p : Program) (u v : ℕ) → Claim p → then p (asks 28 0) ≡ at 0 u → twice p (asks 28 0) (asks 28 3) ≡ at 3 v → ⊥
-unfolding Supposed moved fits bigEndian moveRefusal difference oriented _modulo_ rulesOf linkAfter link
+unfolding Supposed moved lengthRefusal bigEndian moveRefusal difference oriented _modulo_ rulesOf linkAfter link
 no-second p u v h e f =
     let t = another p h (asks 28 0) (pos 0) stands-still (asks 28 3) (pos 0) stands-still .1 in
     let a = told listing _ 3 (rw (e, f) at t) in
@@ -143,7 +144,7 @@ pub no-forgetsLink : Claim forgetsLink → ⊥
 no-forgetsLink h = no-second forgetsLink 1 1 h (reports .11) (reports .12)
 
 no-input : (p : Program) (u : ℕ) → Claim p → then p (asks 28 0) ≡ at 0 u → p .lent (p .call (begun p) (asks 28 0)) (asks 28 3) ≡ 0 ∷ 0 ∷ 0 ∷ 3 ∷ [] → ⊥
-unfolding Supposed moved fits bigEndian moveRefusal difference oriented _modulo_ rulesOf linkAfter link
+unfolding Supposed moved lengthRefusal bigEndian moveRefusal difference oriented _modulo_ rulesOf linkAfter link
 no-input p u h e f =
     let t = another p h (asks 28 0) (pos 0) stands-still (asks 28 3) (pos 0) stands-still .0 in
     let a = told listing _ 3 ((rw (e, f) at t) refl .class2 refl) in
@@ -167,7 +168,6 @@ unfolding rulesOf moved moveRefusal difference oriented _modulo_
 no-half = (
   reports .16,
   λ w h.
-      let i = off-is 10 3 7 2 0 (pos 33) (is-self w) in
       let z = off listing (later library (rawReading 3) (pos 5)) 2 w in
-      omega (arith, i .is, abs-is z, apart z, h),
+      omega (arith, off-is 10 3 7 2 (pos 0) (pos 33) w, abs-is z, apart z, h),
 )

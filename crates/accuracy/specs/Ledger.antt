@@ -24,7 +24,7 @@ use Rattle.link.specs.Class2 as Class2
 use Rattle.link.specs.Class4 as Class4
 use Rattle.cyclic.specs.Class2.{wordOf}
 use Rattle.cyclic.specs.Class4.{counted}
-use Rattle.cyclic.specs.Cycle.{four, fits, linkAfter}
+use Rattle.cyclic.specs.Cycle.{four, lengthRefusal, linkAfter}
 use Rattle.axis.specs.Reading.{startRefusal, startRawRefusal}
 use Rattle.accuracy.specs.Calls.{First, firstReading, firstNumber, Call, reading, rawReading, batching, presetting, storing, cycling}
 
@@ -68,7 +68,7 @@ refusalBy d l (batching raws positions) =
     when (not (eqb (length raws) (length positions))) wrongBuffer before refusalIn (force d) (l .last) raws
 refusalBy d l (presetting v relative) = valueRefusal (force d) v
 refusalBy d l (storing v) = valueRefusal (force d) v
-refusalBy d l (cycling raw output input) = when (not (fits (four (d .parameters)) (length output) (length input))) wrongBuffer
+refusalBy d l (cycling raw output input) = lengthRefusal (four (d .parameters)) (length output) (length input)
 
 -- ---- by the rules: what a call does
 pub data Preset : Type 0 where

@@ -13,10 +13,11 @@ use Rattle.ring.specs.Ring.{inRange}
 use Rattle.encoder.specs.declared.effect.InForce.{InForce}
 use Rattle.encoder.specs.declared.effect.Effect.{Effect}
 use Rattle.encoder.specs.declared.effect.Effect.the-variants.{Taken, Refused}
+use Rattle.encoder.specs.Refusal.{_before_, answer}
 use Rattle.encoder.specs.Parameters.{refusalOn}
 use Rattle.encoder.specs.InForce.{inForce}
 use Rattle.encoder.proofs.PlateLaws.{and-split}
-use Rattle.encoder.proofs.RefusalLaws.{when-none}
+use Rattle.encoder.proofs.RefusalLaws.{when-none, first-no}
 use Rattle.encoder.proofs.ForceLaws.{effect-taken, effect-refused, in-force-taken, in-force-refused}
 use Rattle.travel.specs.Travel.{inside, Inside}
 use Rattle.travel.proofs.TravelLaws.{inside-true, inside-is}
@@ -109,6 +110,11 @@ module _ (a : Axis) (e : Effect) where
   pub outside-of : (n : ℕ) → e ≡ Refused n → e ≡ inForceOn a → (axisRefusal a ≡ n) × (n ≡ 0 → ⊥)
   unfolding inForceOn
   outside-of n h e-is = effect-refused (axisRefusal a) n (rulesOn a) (sym e-is ∙ h)
+
+-- whatever a call answers or leaves, on a record outside its limits it is by 16
+pub outside-answer : {A : Type 0} (refused : ℕ → A) (taken x : A) (a : Axis) (e : Effect) (n m : ℕ) → e ≡ Refused n → e ≡ inForceOn a → x ≡ refused n
+    → x ≡ answer refused taken (axisRefusal a before m)
+outside-answer refused taken x a e n m h e-is x-is = let o = outside-of a e n h e-is in first-no refused taken x (axisRefusal a) m n (sym (o .0)) (o .1) x-is
 
 module _ (a : Axis) (f : InForce) (r : Ready a f) where
   pub stands-none : axisRefusal a ≡ 0

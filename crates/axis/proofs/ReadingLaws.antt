@@ -31,18 +31,7 @@ use Rattle.axis.specs.declared.Axis.{Axis}
 use Rattle.axis.specs.declared.Next.{Next}
 use Rattle.axis.specs.Axis.{rulesOn, axisRefusal, inForceOn, Ready}
 use Rattle.axis.specs.Reading.{accepted, refused, next, fresh, begunBy, startRefusal, start, startRawRefusal, startRaw, travelled, atRaw, readRawRefusal, readRaw, readRefusal, read}
-use Rattle.axis.proofs.AxisLaws.{Limits, limits-none, ready-of, outside-of, stands-none}
-
--- ---- the first refusal is the answer
-pub next-first : (a b : Axis) (n m : ℕ) → (n ≡ 0 → ⊥) → refused a n ≡ next a (n before m) b
-next-first a b n m h = rw (before-first n m h) (sym (refused-is (refused a) (accepted b) n h))
-
-pub next-refused : (a b : Axis) (n : ℕ) → (n ≡ 0 → ⊥) → refused a n ≡ next a n b
-next-refused a b n h = sym (refused-is (refused a) (accepted b) n h)
-
--- so is 16, of any call on a record outside its limits
-pub outside-first : (a b : Axis) (e : Effect) (n m : ℕ) (x : Next) → x ≡ refused a n → e ≡ NotInForce n → e ≡ inForceOn a → x ≡ next a (axisRefusal a before m) b
-outside-first a b e n m x w h e-is = let i = outside-of a e n h e-is in w ∙ rw (i .0) (next-first a b n m (i .1))
+use Rattle.axis.proofs.AxisLaws.{Limits, limits-none, ready-of, outside-answer, stands-none}
 
 -- ---- a raw number
 module _ (a : Axis) (f : InForce) (r : Ready a f) (raw : ℕ) (m : Moved) (x : Next) where
@@ -54,13 +43,9 @@ module _ (a : Axis) (f : InForce) (r : Ready a f) (raw : ℕ) (m : Moved) (x : N
   unfolding readRaw readRawRefusal moved
   take-no n h w m-is =
       let i = to-refused m (movedTo f (a .travel) raw) (travelRefusal f (a .travel) raw) n h m-is in
-      w ∙ rw (stands-none a f r, ← r .is, i .0) (next-refused a (atRaw a raw) n (i .1))
+      w ∙ rw (stands-none a f r, ← r .is, i .0) (sym (refused-is (refused a) _ n (i .1)))
 
-pub raw-16 : (a : Axis) (e : Effect) (raw n : ℕ) (x : Next) → x ≡ refused a n → e ≡ NotInForce n → e ≡ inForceOn a → x ≡ readRaw a raw
-unfolding readRaw readRawRefusal
-raw-16 a e raw n x w h e-is = outside-first a (atRaw a raw) e n _ x w h e-is
-
-pub ruleset raws = (ready-of, take-to, take-no, raw-16)
+pub ruleset raws = (ready-of, take-to, take-no, outside-answer)
 
 -- and the axis that it moves keeps its limits
 pub travelled-kept : (a : Axis) → Limits a → (raw : ℕ) → travelRefusal (rulesOn a) (a .travel) raw ≡ 0 → Limits (atRaw a raw)
@@ -91,18 +76,14 @@ module _ (a : Axis) (s t : ℕ) (q : Reading) (x : Next) where
   unfolding read readRefusal readRaw readRawRefusal
   read-number raw g q-is w = let i = reading-taken (a .nameplate) s t q raw g q-is in rw (i .0) (rw (i .1) at w)
 
-  module _ (e : Effect) (e-is : e ≡ inForceOn a) where
-    pub read-16 : (n : ℕ) → e ≡ NotInForce n → x ≡ refused a n → x ≡ read a s t
-    unfolding read readRefusal
-    read-16 n h w = outside-first a (atRaw a (rawOf (a .nameplate) s t)) e n _ x w h e-is
+  pub read-no : (e : Effect) (f : InForce) (n : ℕ) → e ≡ inForceOn a → e ≡ Taken f → q ≡ NotRead n → q ≡ numbered (a .nameplate) s t → x ≡ refused a n
+      → x ≡ read a s t
+  unfolding read readRefusal
+  read-no e f n e-is h g q-is w =
+      let i = reading-refused (a .nameplate) s t q n g q-is in
+      w ∙ rw (stands-none a f (ready-of a e f h e-is), i .0, before-first n (travelRefusal (rulesOn a) (a .travel) (rawOf (a .nameplate) s t)) (i .1)) (sym (refused-is (refused a) _ n (i .1)))
 
-    pub read-no : (f : InForce) (n : ℕ) → e ≡ Taken f → q ≡ NotRead n → q ≡ numbered (a .nameplate) s t → x ≡ refused a n → x ≡ read a s t
-    unfolding read readRefusal
-    read-no f n h g q-is w =
-        let i = reading-refused (a .nameplate) s t q n g q-is in
-        w ∙ rw (stands-none a f (ready-of a e f h e-is), i .0) (next-first a (atRaw a (rawOf (a .nameplate) s t)) n _ (i .1))
-
-pub ruleset readings = (read-number, read-16, read-no)
+pub ruleset readings = (read-number, read-no, outside-answer)
 
 -- ---- the start
 module _ (n : Nameplate) (p : Parameters) (m : Moved) (x : Next) where
@@ -121,7 +102,7 @@ first n p raw = fresh n p (started (rulesOf n (fieldsOf p)) raw)
 module _ (n : Nameplate) (p : Parameters) (e : Effect) (e-is : e ≡ inForce n p) (x : Next) where
   -- 7, 3, 4, 5, 6 precede whatever a first reading is refused for
   parameters-first : (j later : ℕ) (b : Axis) → e ≡ NotInForce j → x ≡ refused (fresh n p nowhere) j → x ≡ next (fresh n p nowhere) (refusalOn n p before later) b
-  parameters-first j later b h w = let i = in-force-refused n p e j h e-is in w ∙ rw (i .0) (next-first (fresh n p nowhere) b j later (i .1))
+  parameters-first j later b h w = let i = in-force-refused n p e j h e-is in w ∙ rw (i .0) (rw (before-first j later (i .1)) (sym (refused-is (refused (fresh n p nowhere)) _ j (i .1))))
 
   module _ (f : InForce) (h : e ≡ Taken f) where
     parameters-none : refusalOn n p ≡ 0
@@ -148,7 +129,7 @@ module _ (n : Nameplate) (p : Parameters) (e : Effect) (e-is : e ≡ inForce n p
       unfolding start startRefusal
       start-reading j g w =
           let i = reading-refused n s t q j g q-is in
-          w ∙ rw (parameters-none f h, i .0) (next-refused (fresh n p nowhere) (first n p (rawOf n s t)) j (i .1))
+          w ∙ rw (parameters-none f h, i .0) (sym (refused-is (refused (fresh n p nowhere)) _ j (i .1)))
 
       -- a raw number of the sensor is not refused
       pub start-to : (raw : ℕ) (m : Moved) → q ≡ Number raw → m ≡ begun f raw → x ≡ begunBy n p m → x ≡ start n p s t

@@ -33,13 +33,13 @@ answersFrom s (l ∷ ls) = text (reply s (form l) .answer) ++ answersFrom (reply
 unfoldable pub answers : List ℕ → List ℕ
 answers input = answersFrom empty (lines input)
 
--- 15: input above 60,000 octets. 13: the lent buffer has not 780,000 octets, 13 for each octet of input. Form 15 precedes all
-unfoldable pub callRefusal : List ℕ → List ℕ → ℕ
-callRefusal input output = when (ltb 60000 (length input)) noForm before when (not (eqb (length output) 780000)) wrongBuffer
+-- by the octets of the input and of the lent buffer: 15, input above 60,000; then 13, not 780,000 lent, 13 for each octet of input
+abbrev pub callRefusal : ℕ → ℕ → ℕ
+callRefusal input output = when (ltb 60000 input) noForm before when (not (eqb output 780000)) wrongBuffer
 
 unfoldable pub outcome : List ℕ → List ℕ → Outcome
-outcome input output = answer Refused (Written (length (answers input))) (callRefusal input output)
+outcome input output = answer Refused (Written (length (answers input))) (callRefusal (length input) (length output))
 
 -- the buffer then: the answers at its start, and what was behind them; refused, it is kept
 unfoldable pub written : List ℕ → List ℕ → List ℕ
-written input output = answer (λ _. output) (over (answers input) output) (callRefusal input output)
+written input output = answer (λ _. output) (over (answers input) output) (callRefusal (length input) (length output))

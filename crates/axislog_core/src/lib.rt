@@ -5,10 +5,12 @@ ghost use Prim.Native.Nat.{_+_, _≤_};
 ghost use lib.ListN.{length, take};
 ghost use Rattle.integer.specs.Text.{over};
 ghost use Rattle.answers.specs.Answer.{text};
-ghost use Rattle.axislog_core.specs.Log.{answers, outcome, written};
+ghost use Rattle.axislog_core.specs.Log.{answers, callRefusal, outcome, written};
 use answers::Answer;
 use bytes::scan::find;
 use encoder::refusal;
+use encoder::refusal::first;
+use encoder::refusal::when;
 use forms::parse;
 use replies::State;
 
@@ -29,13 +31,21 @@ pub fn answer(input: &[u8], output: &mut [u8]) -> Outcome
     ensures { λ r. ⌜ (r ≡ outcome (now (input .entry)) (now (output .entry)))
         × (now (output .exit) ≡ written (now (input .entry)) (now (output .entry))) ⌝ }
 {
-    if INPUT < input.len() {
-        return Outcome::Refused(refusal::FORM);
-    }
-    if output.len() != OUTPUT {
-        return Outcome::Refused(refusal::BUFFER);
+    let n = call_refusal(input.len(), output.len());
+    if n != 0 {
+        return Outcome::Refused(n);
     }
     Outcome::Written(each_line(input, output))
+}
+
+// The refusal of a call by the octets of the log and of the lent buffer, 0 where it is answered.
+fn call_refusal(input: usize, output: usize) -> u8
+    ensures { λ r. ⌜ r ≡ callRefusal input output ⌝ }
+{
+    first(
+        when(INPUT < input, refusal::FORM),
+        when(output != OUTPUT, refusal::BUFFER),
+    )
 }
 
 // The answers to all lines.

@@ -15,7 +15,7 @@ use Rattle.encoder.specs.declared.effect.InForce.{InForce}
 use Rattle.encoder.specs.declared.effect.Effect.{Effect}
 use Rattle.encoder.specs.declared.effect.Effect.the-variants.{Refused as NotInForce}
 use Rattle.encoder.specs.Refusal.{wrongBuffer, when, _before_, answer}
-use Rattle.encoder.proofs.RefusalLaws.{refused-is, before-first, before-none}
+use Rattle.encoder.proofs.RefusalLaws.{refused-is, before-none}
 use Rattle.travel.specs.declared.Travel.{Travel}
 use Rattle.travel.specs.declared.Moved.{Moved}
 use Rattle.travel.specs.declared.Moved.the-variants.{To, Refused as NotMoved}
@@ -27,8 +27,8 @@ use Rattle.axis.specs.declared.Next.{Next}
 use Rattle.axis.specs.Axis.{rulesOn, axisRefusal, inForceOn, Ready, positionOf}
 use Rattle.axis.specs.Reading.{accepted, refused, travelled, atRaw, readRaw}
 use Rattle.batch.specs.Batch.{firstRefusal, after, positionsOf, batchRefusal, batch, batchList}
-use Rattle.axis.proofs.AxisLaws.{Limits, limits-of, ready-of, outside-of, stands-none, offset-fits}
-use Rattle.axis.proofs.ReadingLaws.{next-refused, outside-first, travelled-kept, singly}
+use Rattle.axis.proofs.AxisLaws.{Limits, limits-of, ready-of, outside-answer, stands-none, offset-fits}
+use Rattle.axis.proofs.ReadingLaws.{travelled-kept, singly}
 
 -- ---- a single reading of an axis within its limits, by the refusal of its raw number
 abbrev lastOf : Axis → ℕ
@@ -94,7 +94,7 @@ module _ (a : Axis) (f : InForce) (r : Ready a f) (s out : List ℕ) where
   limits-here : Limits a
   limits-here = limits-of a (r .stands)
 
-  refusal-is : travelBatchRefusal f (a .travel) (a .offset) s out ≡ batchRefusal a s out
+  refusal-is : travelBatchRefusal f (a .travel) (a .offset) s (length out) ≡ batchRefusal a s out
   unfolding travelBatchRefusal batchRefusal inRange
   refusal-is = rw (stands-none a f r, inside-is f (a .travel) (r .travel), lt-ltb _ _ (r .offset), first-is a s limits-here, ← r .is)
 
@@ -126,19 +126,6 @@ module _ (a : Axis) (f : InForce) (r : Ready a f) (s out : List ℕ) where
     unfolding batched batch
     batch-no n h w m-is =
         let i = to-refused m (travelAfter f (a .travel) s) (batchRefusal a s out) n h (rw (reads (offset-fits a f r), refusal-is) at m-is) in
-        w ∙ rw (i .0) (next-refused a (after a s) n (i .1))
+        w ∙ rw (i .0) (sym (refused-is (refused a) _ n (i .1)))
 
--- and of a record outside its limits
-module _ (a : Axis) (e : Effect) (n : ℕ) (h : e ≡ NotInForce n) (s out : List ℕ) where
-  pub batch-16 : (x : Next) → x ≡ refused a n → e ≡ inForceOn a → x ≡ batch a s out
-  unfolding batch batchRefusal
-  batch-16 x w e-is = outside-first a (after a s) e n _ x w h e-is
-
-  pub list-16 : e ≡ inForceOn a → out ≡ batchList a s out
-  unfolding batchList batchRefusal
-  list-16 e-is =
-      let i = outside-of a e n h e-is in
-      let later = when (not (eqb (length s) (length out))) wrongBuffer before firstRefusal a s in
-      rw (i .0, before-first n later (i .1)) (sym (refused-is (λ (m : ℕ). out) (positionsOf a s) n (i .1)))
-
-pub ruleset batches = (ready-of, batch-list, batch-to, batch-no, batch-16, list-16)
+pub ruleset batches = (ready-of, batch-list, batch-to, batch-no, outside-answer)

@@ -1,4 +1,5 @@
--- One cycle, each way out: refused, axis, link and input are kept; else they are those of the class.
+-- One cycle on an axis within its limits: its number is that of the two lengths, and what it leaves of axis, link and input is what the calls ensure,
+-- one after the other.
 -- Assumes nothing.
 use mathlib.Core.Path.{_≡_, refl, sym, ap, _∙_}
 use mathlib.Core.Bool.{Bool, true, false, cond, not, _&&_}
@@ -22,12 +23,12 @@ use Rattle.encoder.specs.declared.effect.Effect.{Effect}
 use Rattle.encoder.specs.declared.effect.Effect.the-variants.{Refused}
 use Rattle.encoder.specs.Parameters.{fieldsOf}
 use Rattle.encoder.proofs.PlateLaws.{and-split}
-use Rattle.encoder.proofs.RefusalLaws.{refused-is, before-first}
+use Rattle.encoder.proofs.RefusalLaws.{when-none}
 use Rattle.axis.specs.declared.Axis.{Axis}
 use Rattle.axis.specs.declared.Next.{Next}
 use Rattle.axis.specs.Axis.{Ready, inForceOn}
 use Rattle.axis.specs.Reading.{readRaw}
-use Rattle.axis.proofs.AxisLaws.{ready-of, outside-of, limits-of, stands-none}
+use Rattle.axis.proofs.AxisLaws.{limits-of, stands-none}
 use Rattle.link.specs.declared.Link.{Link}
 use Rattle.link.specs.declared.Reaction.{Reaction}
 use Rattle.link.specs.Class2 as Link2
@@ -40,7 +41,7 @@ use Rattle.cyclic.specs.Raw.{faultyAt, takenAt}
 use Rattle.cyclic.specs.Preset.{presetBy, standing}
 use Rattle.cyclic.specs.Class2 as Class2
 use Rattle.cyclic.specs.Class4 as Class4
-use Rattle.cyclic.specs.Cycle.{four, fits, cycleRefusal, wordBy, inputBy, linkAfter, axisAfter, inputOf, linkLeft, inputLeft, done, refused, cycle, cycleInput}
+use Rattle.cyclic.specs.Cycle.{four, inputOctets, lengthRefusal, cycleRefusal, wordBy, inputBy, linkAfter, axisAfter, inputOf, linkLeft, inputLeft, done, refused, cycle, cycleInput}
 use Rattle.cyclic.proofs.CycleKept.{read-ready, after-same, after-is}
 use Rattle.cyclic.proofs.Class4Laws.{at-position}
 
@@ -48,64 +49,17 @@ use Rattle.cyclic.proofs.Class4Laws.{at-position}
 class-is : (p : Parameters) (g : Fields) → g ≡ fieldsOf p → four p ≡ g .four
 class-is p g e = ap (λ (h : Fields). h .four) (sym e)
 
-module _ (class : Bool) (output input : ℕ) where
-  pub fits-four : class ≡ true → (eqb output 4 && eqb input 12) ≡ fits class output input
-  unfolding fits
-  fits-four t = rw t
+pub lengths : (class : Bool) (output input : ℕ) → lengthRefusal class output input ≡ 0 → (output ≡ 4) × (input ≡ inputOctets class)
+unfolding lengthRefusal
+lengths class output input none =
+    let h = and-split (eqb output 4) (eqb input (inputOctets class)) (when-none _ 12 none) in
+    (eqb-true _ _ (h .0), eqb-true _ _ (h .1))
 
-  pub fits-two : class ≡ false → (eqb output 4 && eqb input 4) ≡ fits class output input
-  unfolding fits
-  fits-two t = rw t
-
-  module _ (b : Bool) (n : not b ≡ false) (b-is : b ≡ fits class output input) where
-    lengths : (output ≡ 4) × (input ≡ cond class 12 4)
-    unfolding fits
-    lengths =
-        let h = and-split (eqb output 4) (eqb input (cond class 12 4)) (sym b-is ∙ not-false b n) in
-        (eqb-true _ _ (h .0), eqb-true _ _ (h .1))
-
-    pub output-four : output ≡ 4
-    output-four = lengths .0
-
-    pub input-long : input ≡ cond class 12 4
-    input-long = lengths .1
-
--- ---- the answer and the input, by the number of the refusal
-module _ (a : Axis) (k : Link) (raw : ℕ) (output input : List ℕ) (n : ℕ) where
-  module _ (z : n ≡ 0 → ⊥) (n-is : cycleRefusal a output input ≡ n) where
-    refused-answer : refused a k n ≡ cycle a k raw output input
-    unfolding cycle
-    refused-answer = rw n-is (sym (refused-is (refused a k) _ n z))
-
-    refused-input : input ≡ cycleInput a k raw output input
-    unfolding cycleInput
-    refused-input = rw n-is (sym (refused-is (λ (m : ℕ). input) _ n z))
-
-  -- 16
-  module _ (e : Effect) (h : e ≡ Refused n) (e-is : e ≡ inForceOn a) where
-    outside : cycleRefusal a output input ≡ n
-    unfolding cycleRefusal
-    outside = let o = outside-of a e n h e-is in rw (o .0) (before-first n _ (o .1))
-
-    pub outside-answer : _≡_ {A = Cycled} (record { axis = a; link = k; refusal = n }) (cycle a k raw output input)
-    outside-answer = refused-answer (outside-of a e n h e-is .1) outside
-
-    pub outside-input : input ≡ cycleInput a k raw output input
-    outside-input = refused-input (outside-of a e n h e-is .1) outside
-
--- ---- on an axis within its limits
-module _ (a : Axis) (f : InForce) (r : Ready a f) (k : Link) (raw : ℕ) (output input : List ℕ) where
-  -- 13
-  module _ (g : Fields) (b : Bool) (t : not b ≡ true) (b-is : b ≡ fits (g .four) (length output) (length input)) (g-is : g ≡ fieldsOf (a .parameters)) where
-    wrong : cycleRefusal a output input ≡ 13
-    unfolding cycleRefusal
-    wrong = rw (stands-none a f r, class-is (a .parameters) g g-is, ← b-is, t)
-
-    pub wrong-answer : _≡_ {A = Cycled} (record { axis = a; link = k; refusal = 13 }) (cycle a k raw output input)
-    wrong-answer = refused-answer a k raw output input 13 (λ z. omega arith) wrong
-
-    pub wrong-input : input ≡ cycleInput a k raw output input
-    wrong-input = refused-input a k raw output input 13 (λ z. omega arith) wrong
+-- ---- the number of a cycle on an axis within its limits
+pub number-is : (a : Axis) (f : InForce) (g : Fields) (output input : List ℕ) (n : ℕ) → Ready a f → g ≡ fieldsOf (a .parameters)
+    → n ≡ lengthRefusal (g .four) (length output) (length input) → n ≡ cycleRefusal a output input
+unfolding cycleRefusal
+number-is a f g output input n r g-is n-is = n-is ∙ rw (stands-none a f r, class-is (a .parameters) g g-is)
 
 -- ---- by the class: four octets are a number of 32 bits
 pub word-two : (class : Bool) (output : List ℕ) (w : ℕ) → class ≡ false → w ≡ bigEndian output % 2 ^ 32 → Octets output → length output ≡ 4 → w ≡ wordBy class output
@@ -121,7 +75,7 @@ input-by : (class : Bool) (k : Link) (a : Axis) (output : List ℕ)
 input-by true k a output = refl
 input-by false k a output = refl
 
-pub input-two : (class : Bool) (k : Link) (w : ℕ) (b : Standing) (l i : List ℕ) → class ≡ false → b ≡ standing (b .axis) → length i ≡ cond class 12 4 → l ≡ octets (length i) (b .position .0)
+pub input-two : (class : Bool) (k : Link) (w : ℕ) (b : Standing) (l i : List ℕ) → class ≡ false → b ≡ standing (b .axis) → length i ≡ inputOctets class → l ≡ octets (length i) (b .position .0)
     → l ≡ inputBy class k w (b .axis)
 unfolding Class2.input
 input-two class k w b l i t b-is long l-is = l-is ∙ rw (long, t, at-position b b-is)
@@ -170,21 +124,3 @@ module _ (a : Axis) (f : InForce) (r : Ready a f) (k : Link) (raw : ℕ) (output
         → l ≡ inputLeft a k raw output
     unfolding inputOf
     done-input l l-is = l-is ∙ rw (w-is, link-is, ← axis-is, class-is (b .axis .parameters) g left-fields) (input-by (g .four) _ _ output)
-
--- ---- and so the whole
-module _ (a : Axis) (f : InForce) (r : Ready a f) (k : Link) (raw : ℕ) (output input : List ℕ) (g : Fields) (g-is : g ≡ fieldsOf (a .parameters)) (b : Bool)
-    (t : not b ≡ false) (b-is : b ≡ fits (g .four) (length output) (length input)) where
-  none : cycleRefusal a output input ≡ 0
-  unfolding cycleRefusal
-  none = rw (stands-none a f r, class-is (a .parameters) g g-is, ← b-is, t)
-
-  pub run-answer : (x : Cycled) → x ≡ done (axisAfter a k raw output) (linkLeft a k raw output) → x ≡ cycle a k raw output input
-  unfolding cycle
-  run-answer x x-is = x-is ∙ rw none
-
-  pub run-input : (l : List ℕ) → l ≡ inputLeft a k raw output
-      → l ≡ cycleInput a k raw output input
-  unfolding cycleInput
-  run-input l l-is = l-is ∙ rw none
-
-pub ruleset cycles = (ready-of, fits-four, fits-two, output-four, input-long, outside-answer, outside-input, wrong-answer, wrong-input, run-answer, run-input)

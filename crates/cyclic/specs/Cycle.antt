@@ -24,13 +24,16 @@ use Rattle.cyclic.specs.Class4 as Class4
 abbrev pub four : Parameters → Bool
 four p = fieldsOf p .four
 
--- 4 octets out; 4 in, or 12 in telegram 81
-unfoldable pub fits : Bool → ℕ → ℕ → Bool
-fits class output input = eqb output 4 && eqb input (cond class 12 4)
+-- 4 octets out; 4 in, or 12 in telegram 81; else 13
+abbrev pub inputOctets : Bool → ℕ
+inputOctets class = cond class 12 4
+
+unfoldable pub lengthRefusal : Bool → ℕ → ℕ → ℕ
+lengthRefusal class output input = when (not (eqb output 4 && eqb input (inputOctets class))) wrongBuffer
 
 -- 16, 13
 unfoldable pub cycleRefusal : Axis → List ℕ → List ℕ → ℕ
-cycleRefusal a output input = axisRefusal a before when (not (fits (four (a .parameters)) (length output) (length input))) wrongBuffer
+cycleRefusal a output input = axisRefusal a before lengthRefusal (four (a .parameters)) (length output) (length input)
 
 -- the control word and the input, by the class
 abbrev pub wordBy : Bool → List ℕ → ℕ

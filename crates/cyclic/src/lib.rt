@@ -8,12 +8,13 @@ ghost use lib.ListN.{length};
 ghost use Rattle.encoder.specs.Parameters.{fieldsOf};
 ghost use Rattle.axis.specs.Axis.{Ready};
 ghost use Rattle.cyclic.specs.Preset.{standing};
-ghost use Rattle.cyclic.specs.Cycle.{fits, wordBy, inputBy, axisAfter, linkLeft, inputLeft, done, cycle, cycleInput};
+ghost use Rattle.cyclic.specs.Cycle.{inputOctets, lengthRefusal, wordBy, inputBy, axisAfter, linkLeft, inputLeft, done, cycle, cycleInput};
 use axis::Axis;
 use encoder::effect::Effect;
 use encoder::effect::InForce;
 use encoder::parameters::Fields;
 use encoder::refusal;
+use encoder::refusal::when;
 use link::Link;
 use link::react;
 use octets::number;
@@ -54,25 +55,29 @@ fn run(axis: Axis, link: Link, rules: InForce, raw: u32, output: &[u8], input: &
 {
     let parameters = axis.parameters;
     let fields = parameters.fields();
-    if !fits(fields.four, output.len(), input.len()) {
+    let n = length_refusal(fields.four, output.len(), input.len());
+    if n != 0 {
         return Cycled {
             axis,
             link,
-            refusal: refusal::BUFFER,
+            refusal: n,
         };
     }
     exchange(fields, axis, link, rules, raw, output, input)
 }
 
-// 4 octets out; 4 in, or 12 in telegram 81.
-fn fits(four: bool, output: usize, input: usize) -> bool
-    ensures { λ r. ⌜ r ≡ fits four output input ⌝ }
+// The refusal of buffers of so many octets, 0 for those of the class.
+fn length_refusal(four: bool, output: usize, input: usize) -> u8
+    ensures { λ r. ⌜ r ≡ lengthRefusal four output input ⌝ }
 {
-    if four {
-        (output == 4) & (input == 12)
-    } else {
-        (output == 4) & (input == 4)
-    }
+    when(!((output == 4) & (input == input_octets(four))), refusal::BUFFER)
+}
+
+// 4 octets come in, or 12 in telegram 81.
+fn input_octets(four: bool) -> usize
+    ensures { λ r. ⌜ r ≡ inputOctets four ⌝ }
+{
+    if four { 12 } else { 4 }
 }
 
 // The same, with buffers of the lengths of the class.
@@ -85,7 +90,7 @@ fn exchange(
     output: &[u8],
     input: &mut [u8],
 ) -> Cycled
-    requires { ⌜ Ready axis rules × (fields ≡ fieldsOf (axis .parameters)) × (length (now output) ≡ 4) × (length (now input) ≡ cond (fields .four) 12 4) ⌝ }
+    requires { ⌜ Ready axis rules × (fields ≡ fieldsOf (axis .parameters)) × (length (now output) ≡ 4) × (length (now input) ≡ inputOctets (fields .four)) ⌝ }
     ensures { λ r. ⌜ (r ≡ done (axisAfter axis link raw (now (output .entry))) (linkLeft axis link raw (now (output .entry))))
         × (now (input .exit) ≡ inputLeft axis link raw (now (output .entry))) ⌝ }
 {
@@ -119,7 +124,7 @@ fn word_of(four: bool, output: &[u8]) -> u32
 
 // The input, by the class: that of class 2 is the position.
 fn fill(fields: Fields, after: Standing, link: Link, word: u32, input: &mut [u8])
-    requires { ⌜ (fields ≡ fieldsOf (after .axis .parameters)) × (after ≡ standing (after .axis)) × (length (now input) ≡ cond (fields .four) 12 4) ⌝ }
+    requires { ⌜ (fields ≡ fieldsOf (after .axis .parameters)) × (after ≡ standing (after .axis)) × (length (now input) ≡ inputOctets (fields .four)) ⌝ }
     ensures { λ _. ⌜ now (input .exit) ≡ inputBy (fields .four) link word (after .axis) ⌝ }
 {
     if fields.four {

@@ -1,4 +1,4 @@
--- What is in force, at each way out, by the number k of the parameters' refusal: a law a way, its premises the tests and calls on that way.
+-- What is in force, with scaling on and off, and what the callees ask of a plate whose parameters are taken; and the answer taken apart.
 -- Assumes nothing.
 use mathlib.Core.Path.{_≡_, refl, sym, _∙_}
 use mathlib.Core.Bool.{Bool, true, false}
@@ -14,37 +14,35 @@ use Rattle.encoder.specs.declared.effect.InForce.{InForce}
 use Rattle.encoder.specs.declared.effect.Effect.{Effect}
 use Rattle.encoder.specs.declared.effect.Effect.the-variants.{Taken, Refused}
 use Rattle.encoder.specs.Refusal.{answer}
-use Rattle.encoder.specs.Nameplate.{plateFits, capacityOf}
+use Rattle.encoder.specs.Nameplate.{plateRefusal, capacityOf}
 use Rattle.encoder.specs.Operating.{classOn, scalingOn, reversedBy}
 use Rattle.encoder.specs.Parameters.{fieldsOf, refusalOn}
 use Rattle.encoder.specs.InForce.{rulesOf, inForce}
-use Rattle.encoder.proofs.RefusalLaws.{refused-is}
+use Rattle.encoder.proofs.RefusalLaws.{exits, before-none}
 use Rattle.encoder.proofs.PlateLaws.{plated}
-use Rattle.encoder.proofs.ParameterLaws.{taken-plate}
 
-module _ (n : Nameplate) (p : Parameters) (k : ℕ) where
-  pub force-refused : (k ≡ 0 → ⊥) → k ≡ refusalOn n p → Refused k ≡ inForce n p
-  unfolding inForce
-  force-refused ne k-is = rw (← k-is, refused-is Refused (Taken (rulesOf n (fieldsOf p))) k ne)
-
-  module _ (none : k ≡ 0) (k-is : k ≡ refusalOn n p) where
-    pub force-plate : plateFits n ≡ true
-    force-plate = taken-plate n p (sym k-is ∙ none)
+module _ (n : Nameplate) (p : Parameters) where
+  -- parameters that are taken have a plate that is not refused, and so has each way on
+  module _ (k : ℕ) (none : k ≡ 0) (k-is : k ≡ refusalOn n p) where
+    pub force-plate : plateRefusal n ≡ 0
+    unfolding refusalOn
+    force-plate = before-none (plateRefusal n) _ (sym k-is ∙ none) .0
 
     pub force-steps : Fits w32 (n .steps .0)
     force-steps = record { fits = omega (arith, plated n force-plate) }
 
-    module _ (f : Fields) (f-is : f ≡ fieldsOf p) (c : Steps) (s v a : Bool) where
-      pub force-on : s ≡ true → s ≡ scalingOn (f .operating) → c .0 ≡ capacityOf n → v ≡ reversedBy (f .four) (f .operating) → a ≡ classOn (f .operating)
-          → Taken (record { steps = n .steps; capacity = c; scale = f .units; span = f .range; reversed = v; enabled = a; speed = f .speed }) ≡ inForce n p
-      unfolding inForce rulesOf
-      force-on t s-is c-is v-is a-is = rw (← k-is, none, ← f-is, ← s-is, t, ← c-is, v-is, a-is)
+  module _ (f : Fields) (f-is : f ≡ fieldsOf p) (c : Steps) (c-is : c .0 ≡ capacityOf n) (s v a : Bool) (s-is : s ≡ scalingOn (f .operating))
+      (v-is : v ≡ reversedBy (f .four) (f .operating)) (a-is : a ≡ classOn (f .operating)) where
+    pub force-on : s ≡ true
+        → Taken (record { steps = n .steps; capacity = c; scale = f .units; span = f .range; reversed = v; enabled = a; speed = f .speed }) ≡ Taken (rulesOf n (fieldsOf p))
+    unfolding rulesOf
+    force-on t = rw (← f-is, ← s-is, t, ← c-is, v-is, a-is)
 
-      pub force-off : s ≡ false → s ≡ scalingOn (f .operating) → c .0 ≡ capacityOf n → v ≡ reversedBy (f .four) (f .operating) → a ≡ classOn (f .operating)
-          → Taken (record { steps = n .steps; capacity = c; scale = record { 0 = n .steps .0 }; span = record { 0 = c .0 }; reversed = v; enabled = a; speed = f .speed })
-          ≡ inForce n p
-      unfolding inForce rulesOf
-      force-off t s-is c-is v-is a-is = rw (← k-is, none, ← f-is, ← s-is, t, ← c-is, v-is, a-is)
+    pub force-off : s ≡ false
+        → Taken (record { steps = n .steps; capacity = c; scale = record { 0 = n .steps .0 }; span = record { 0 = c .0 }; reversed = v; enabled = a; speed = f .speed })
+        ≡ Taken (rulesOf n (fieldsOf p))
+    unfolding rulesOf
+    force-off t = rw (← f-is, ← s-is, t, ← c-is, v-is, a-is)
 
 -- ---- the answer taken apart
 pub effect-taken : (k : ℕ) (g f : InForce) → answer Refused (Taken g) k ≡ Taken f → (k ≡ 0) × (f ≡ g)
@@ -64,4 +62,6 @@ module _ (n : Nameplate) (p : Parameters) (e : Effect) where
   unfolding inForce
   in-force-refused k t e-is = effect-refused (refusalOn n p) k (rulesOf n (fieldsOf p)) (sym e-is ∙ t)
 
-pub ruleset force = (force-refused, force-plate, force-steps, force-on, force-off)
+pub ruleset asks = (force-plate, force-steps)
+
+pub ruleset force = (exits, force-on, force-off)

@@ -1,23 +1,24 @@
--- The test of a nameplate, and what holds of one within its limits: its bounds, one by one, and that its capacity fits.
+-- What holds of a nameplate that is not refused: its bounds, one by one, and that its capacity fits.
 -- Assumes nothing.
-use mathlib.Core.Path.{_≡_, refl, sym, _∙_}
-use mathlib.Core.Bool.{Bool, true, false, not, _&&_, false≢true}
-use Prim.Native.Nat.{_*_, _^_, _≤_}
+use mathlib.Core.Path.{_≡_, refl}
+use mathlib.Core.Bool.{Bool, true, false, _&&_, false≢true}
+use Prim.Native.Nat.{ℕ, _*_, _^_, _≤_}
 use native.Mathlib.Omega.{arith}
 use native.Mathlib.Nat as N
-use borrow.Author.Tests.{leb-true, not-false, not-true}
-use mir.Syntax.{w64}
+use borrow.Author.Tests.{leb-true}
+use mir.Syntax.{w64, w32}
 use mir.Val.{Fits}
 use Rattle.encoder.specs.declared.nameplate.Nameplate.{Nameplate}
-use Rattle.encoder.specs.Nameplate.{plateFits, capacityOf}
+use Rattle.encoder.specs.Nameplate.{plateRefusal, capacityOf}
+use Rattle.encoder.proofs.RefusalLaws.{when-none}
 
--- the test of a nameplate, that failed and that passed
-module _ (n : Nameplate) (fits : Bool) where
-  pub plate-failed : not fits ≡ true → fits ≡ plateFits n → plateFits n ≡ false
-  plate-failed t e = sym e ∙ not-true fits t
-
-  pub plate-passed : not fits ≡ false → fits ≡ plateFits n → plateFits n ≡ true
-  plate-passed t e = sym e ∙ not-false fits t
+-- a product of two numbers of 32 bits, as M × T
+pub fits-product : (a b : ℕ) → Fits w32 a → Fits w32 b → Fits w64 (a * b)
+fits-product a b h k =
+    let p : a ≤ 4294967295 = omega (arith, h .fits) in
+    let q : b ≤ 4294967295 = omega (arith, k .fits) in
+    let r : a * b ≤ 4294967295 * 4294967295 = N.mul-le-mul p q in
+    record { fits = omega arith }
 
 -- its limits
 pub record Plated (n : Nameplate) : Type 0 where
@@ -30,9 +31,10 @@ pub and-split : (a b : Bool) → (a && b) ≡ true → (a ≡ true) × (b ≡ tr
 and-split true b e = (refl, e)
 and-split false b e = absurd (false≢true e)
 
-pub plated : (n : Nameplate) → plateFits n ≡ true → Plated n
+pub plated : (n : Nameplate) → plateRefusal n ≡ 0 → Plated n
+unfolding plateRefusal
 plated n e =
-    let a = and-split _ _ e in
+    let a = and-split _ _ (when-none _ 6 e) in
     let b = and-split _ _ (a .0) in
     let c = and-split _ _ (b .0) in
     record {
@@ -42,12 +44,9 @@ plated n e =
       turns-most = leb-true _ _ (a .1);
     }
 
-module _ (n : Nameplate) (fits : plateFits n ≡ true) where
+module _ (n : Nameplate) (fits : plateRefusal n ≡ 0) where
   pub capacity-most : capacityOf n ≤ 2 ^ 31
   capacity-most = let p = plated n fits in N.mul-le-mul (p .steps-most) (p .turns-most)
 
   pub capacity-fits : Fits w64 (n .steps .0 * n .turns .0)
   capacity-fits = record { fits = omega (arith, capacity-most) }
-
-  pub capacity-is : (n .steps .0 * n .turns .0 ≡ capacityOf n) × (n .steps .0 * n .turns .0 ≤ 2 ^ 31)
-  capacity-is = (refl, capacity-most)

@@ -1,14 +1,25 @@
--- An answer whose number is not 0 is a refusal; and what the order of refusals tells.
+-- An answer and a kept buffer by the number of the refusal, and what a number that is 0 tells of its tests.
 -- Assumes nothing.
 use Prim.Native.Nat.{ℕ, zero, suc}
-use mathlib.Core.Path.{_≡_, refl}
+use mathlib.Core.Path.{_≡_, refl, sym, _∙_}
 use mathlib.Core.Bool.{Bool, true, false, not}
 use native.Mathlib.Omega.{arith}
+use borrow.Author.Tests.{not-false}
 use Rattle.encoder.specs.Refusal.{when, _before_, answer}
 
 pub refused-is : {A : Type 0} (refused : ℕ → A) (taken : A) (k : ℕ) → (k ≡ 0 → ⊥) → answer refused taken k ≡ refused k
 refused-is refused taken zero h = absurd (h refl)
 refused-is refused taken (suc k) h = refl
+
+-- x is what a call answers, or what it leaves in a lent buffer; k is the number that the code has worked out
+module _ {A : Type 0} (refused : ℕ → A) (taken x : A) (n k : ℕ) where
+  pub answer-no : k ≡ n → (k ≡ 0 → ⊥) → x ≡ refused k → x ≡ answer refused taken n
+  answer-no k-is ne x-is = x-is ∙ rw (← k-is) (sym (refused-is refused taken k ne))
+
+  pub answer-yes : k ≡ n → k ≡ 0 → x ≡ taken → x ≡ answer refused taken n
+  answer-yes k-is none x-is = x-is ∙ rw (← k-is, none)
+
+pub ruleset exits = (answer-no, answer-yes)
 
 -- the first of two refusals
 pub before-first : (n m : ℕ) → (n ≡ 0 → ⊥) → (n before m) ≡ n
@@ -19,7 +30,45 @@ pub before-none : (n m : ℕ) → (n before m) ≡ 0 → (n ≡ 0) × (m ≡ 0)
 before-none zero m e = (refl, e)
 before-none (suc n) m e = absurd (omega arith)
 
--- a test that gives no refusal has been passed
+-- a refusal that came first does not come again
+pub before-again : (n k : ℕ) (f : ℕ → ℕ) → (n before f (n before k)) ≡ (n before f k)
+before-again zero k f = refl
+before-again (suc n) k f = refl
+
+-- the same, refusal by refusal: k precedes m, or is none; and a test before m has failed, or is passed
+module _ {A : Type 0} (refused : ℕ → A) (taken x : A) where
+  module _ (n m k : ℕ) (k-is : k ≡ n) where
+    pub first-no : (k ≡ 0 → ⊥) → x ≡ refused k → x ≡ answer refused taken (n before m)
+    first-no ne x-is = x-is ∙ rw (← k-is, before-first k m ne) (sym (refused-is refused taken k ne))
+
+    pub first-yes : k ≡ 0 → x ≡ answer refused taken m → x ≡ answer refused taken (n before m)
+    first-yes none x-is = x-is ∙ rw (← k-is, none)
+
+  module _ (b : Bool) (n m : ℕ) where
+    pub test-no : b ≡ false → x ≡ refused (suc n) → x ≡ answer refused taken (when (not b) (suc n) before m)
+    test-no e x-is = x-is ∙ rw e
+
+    pub test-yes : b ≡ true → x ≡ answer refused taken m → x ≡ answer refused taken (when (not b) n before m)
+    test-yes e x-is = x-is ∙ rw e
+
+pub ruleset stepwise = (first-no, first-yes, test-no, test-yes)
+
+-- and of a call that answers the number itself, or keeps what it has either way
+pub number-is : (n : ℕ) → n ≡ answer (λ (k : ℕ). k) 0 n
+number-is zero = refl
+number-is (suc n) = refl
+
+pub as-number : (r n : ℕ) → r ≡ answer (λ (k : ℕ). k) 0 n → r ≡ n
+as-number r n e = e ∙ sym (number-is n)
+
+pub kept-is : {A : Type 0} (x : A) (n : ℕ) → x ≡ answer (λ (k : ℕ). x) x n
+kept-is x zero = refl
+kept-is x (suc n) = refl
+
+-- a test that gives no refusal
+pub when-not : (b : Bool) (n : ℕ) → when b (suc n) ≡ 0 → b ≡ false
+when-not true n e = absurd (omega arith)
+when-not false n e = refl
+
 pub when-none : (b : Bool) (n : ℕ) → when (not b) (suc n) ≡ 0 → b ≡ true
-when-none true n e = refl
-when-none false n e = absurd (omega arith)
+when-none b n e = not-false b (when-not (not b) n e)

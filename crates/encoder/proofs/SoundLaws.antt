@@ -1,22 +1,22 @@
 -- What parameters that are taken put in force is within the limits: M and L by rows 4 and 5 with scaling on, and by the nameplate without.
 -- Assumes nothing.
 use mathlib.Core.Path.{_≡_, refl}
-use mathlib.Core.Bool.{Bool, true, false, cond, _||_, true≢false}
-use Prim.Native.Nat.{ℕ, _*_, _^_, _≤_}
+use mathlib.Core.Bool.{Bool, true, false, _||_, true≢false}
+use Prim.Native.Nat.{_*_, _^_, _≤_}
 use native.Mathlib.Omega.{arith}
 use native.Mathlib.Nat as N
-use lib.Dec.{eqb, ltb}
 use borrow.Author.Tests.{leb-true, le-leb, ltb-false, eqb-false}
 use Rattle.encoder.specs.declared.nameplate.Nameplate.{Nameplate}
 use Rattle.encoder.specs.declared.parameters.Parameters.{Parameters}
 use Rattle.encoder.specs.declared.parameters.Fields.{Fields}
 use Rattle.encoder.specs.declared.effect.InForce.{InForce}
-use Rattle.encoder.specs.Nameplate.{plateFits, capacityOf}
+use Rattle.encoder.specs.Refusal.{reservedBit, revolutionUnits, totalRange, when}
+use Rattle.encoder.specs.Nameplate.{plateRefusal, capacityOf}
 use Rattle.encoder.specs.Operating.{scalingOn, reservedWrong}
-use Rattle.encoder.specs.Parameters.{fieldsOf, unitsWrong, rangeWrong, speedWrong, fieldsRefusal, refusalOn}
+use Rattle.encoder.specs.Parameters.{fieldsOf, unitsWrong, rangeWrong, fieldsRefusal, refusalOn}
 use Rattle.encoder.specs.InForce.{scaleOf, spanOf, rulesOf, rulesFit, Sound}
+use Rattle.encoder.proofs.RefusalLaws.{before-none, when-not}
 use Rattle.encoder.proofs.PlateLaws.{and-split, plated, capacity-most}
-use Rattle.encoder.proofs.ParameterLaws.{on-plate, taken-plate}
 
 -- ---- the limits, as tests and as facts
 pub sound-of : (f : InForce) → rulesFit f ≡ true → Sound f
@@ -59,21 +59,17 @@ or-split : (a b : Bool) → (a || b) ≡ false → (a ≡ false) × (b ≡ false
 or-split false b e = (refl, e)
 or-split true b e = absurd (true≢false e)
 
-none-refused : (a b c d : Bool) → _≡_ {A = ℕ} (cond a 3 (cond b 4 (cond c 5 (cond d 6 0)))) 0 → (b ≡ false) × (c ≡ false)
-none-refused true b c d e = absurd (omega arith)
-none-refused false true c d e = absurd (omega arith)
-none-refused false false true d e = absurd (omega arith)
-none-refused false false false d e = (refl, refl)
-
 -- M and L in force, by whether scaling is on
-module _ (n : Nameplate) (f : Fields) (fits : plateFits n ≡ true) (none : fieldsRefusal n f ≡ 0) where
+module _ (n : Nameplate) (f : Fields) (fits : plateRefusal n ≡ 0) (none : fieldsRefusal n f ≡ 0) where
   bounds : (b : Bool) → scalingOn (f .operating) ≡ b → (1 ≤ scaleOf n f) × (scaleOf n f ≤ 65536) × (1 ≤ spanOf n f) × (spanOf n f ≤ 2 ^ 31)
   unfolding fieldsRefusal
   bounds true on =
       let p = plated n fits in
-      let z = none-refused (reservedWrong (f .four) (f .operating)) (unitsWrong n f) (rangeWrong n f) (speedWrong f) none in
-      let u = or-split (eqb (f .units .0) 0) (ltb (n .steps .0) (f .units .0)) (rw on at (z .0)) in
-      let r = or-split (ltb (f .range .0) (f .units .0)) (ltb (f .units .0 * n .turns .0) (f .range .0)) (rw on at (z .1)) in
+      let three = before-none (when (reservedWrong (f .four) (f .operating)) reservedBit) _ none in
+      let four = before-none (when (unitsWrong n f) revolutionUnits) _ (three .1) in
+      let five = before-none (when (rangeWrong n f) totalRange) _ (four .1) in
+      let u = or-split _ _ (rw on at (when-not (unitsWrong n f) 3 (four .0))) in
+      let r = or-split _ _ (rw on at (when-not (rangeWrong n f) 4 (five .0))) in
       let a = eqb-false (f .units .0) 0 (u .0) in
       let b = ltb-false (n .steps .0) (f .units .0) (u .1) in
       let c = ltb-false (f .range .0) (f .units .0) (r .0) in
@@ -104,4 +100,5 @@ module _ (n : Nameplate) (f : Fields) (fits : plateFits n ≡ true) (none : fiel
       }
 
 pub taken-sound : (n : Nameplate) (p : Parameters) → refusalOn n p ≡ 0 → Sound (rulesOf n (fieldsOf p))
-taken-sound n p e = let h = taken-plate n p e in in-force-sound n (fieldsOf p) h (rw (on-plate n p h) at e)
+unfolding refusalOn
+taken-sound n p e = let h = before-none (plateRefusal n) _ e in in-force-sound n (fieldsOf p) (h .0) (h .1)

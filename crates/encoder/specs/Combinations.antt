@@ -5,17 +5,16 @@
 use Prim.Native.Nat.{ℕ}
 use mathlib.Core.Bool.{Bool, true, false}
 use mathlib.Core.List.{List, [], _∷_}
-use lib.ListN.{replicate}
 use Rattle.encoder.specs.declared.nameplate.Nameplate.{Nameplate}
 use Rattle.encoder.specs.declared.parameters.Parameters.{Parameters}
 use Rattle.encoder.specs.declared.parameters.Parameters.the-variants.{Class2, Class4}
 use Rattle.encoder.specs.declared.effect.Effect.{Effect}
 use Rattle.encoder.specs.declared.effect.Effect.the-variants.{Taken}
+use Rattle.encoder.specs.Nameplate.{plainPlate}
 
 -- R = 10, T = 3, so C = 30
 abbrev pub plate : Nameplate
-plate =
-    record { steps = record { 0 = 10 }; turns = record { 0 = 3 }; ident = 0; software = replicate 2 0; serial = replicate 10 0 }
+plate = plainPlate 10 3 0
 
 -- the octet with the bits, revolution units 4 and total range 7
 abbrev pub two : ℕ → Parameters

@@ -1,10 +1,11 @@
 // The nameplate of a device (document 01, "Plate and reading").
 ghost use mathlib.Core.Path.{_≡_};
-ghost use mathlib.Core.Bool.{true};
 ghost use Prim.Native.Nat.{_≤_, _^_};
-ghost use Rattle.encoder.specs.Nameplate.{plateFits, capacityOf};
+ghost use Rattle.encoder.specs.Nameplate.{plateRefusal, capacityOf, plainPlate};
 use crate::quantity::Steps;
 use crate::quantity::Turns;
+use crate::refusal;
+use crate::refusal::when;
 
 pub struct Nameplate {
     // R, per turn
@@ -17,18 +18,32 @@ pub struct Nameplate {
 }
 
 impl Nameplate {
-    // R and T are within their limits.
-    pub fn fits(self) -> bool
-        ensures { λ r. ⌜ r ≡ plateFits self ⌝ }
+    // By numbers R, T and ident; the other fields are zero.
+    pub fn plain(steps: u32, turns: u32, ident: u16) -> Nameplate
+        ensures { λ r. ⌜ r ≡ plainPlate steps turns ident ⌝ }
+    {
+        Nameplate {
+            steps: Steps(steps as u64),
+            turns: Turns(turns),
+            ident,
+            software: [0; 2],
+            serial: [0; 10],
+        }
+    }
+
+    // The refusal of the nameplate, 0 where R and T are within their limits.
+    pub fn refusal(self) -> u8
+        ensures { λ r. ⌜ r ≡ plateRefusal self ⌝ }
     {
         let steps = self.steps.0;
         let turns = self.turns.0;
-        (2 <= steps) & (steps <= 65536) & (1 <= turns) & (turns <= 32768)
+        let within = (2 <= steps) & (steps <= 65536) & (1 <= turns) & (turns <= 32768);
+        when(!within, refusal::PLATE)
     }
 
     // C, the steps of all turns.
     pub(crate) fn capacity(self) -> Steps
-        requires { ⌜ plateFits self ≡ true ⌝ }
+        requires { ⌜ plateRefusal self ≡ 0 ⌝ }
         ensures { λ r. ⌜ (r .0 ≡ capacityOf self) × (r .0 ≤ 2 ^ 31) ⌝ }
     {
         Steps(self.steps.0 * self.turns.0 as u64)

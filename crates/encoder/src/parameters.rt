@@ -6,6 +6,8 @@ use crate::operating::reserved;
 use crate::operating::scaling;
 use crate::quantity::Units;
 use crate::refusal;
+use crate::refusal::first;
+use crate::refusal::when;
 
 pub enum Parameters {
     // Octet 9, revolution units, total range.
@@ -38,10 +40,7 @@ impl Parameters {
     pub fn refusal(self, plate: Nameplate) -> u8
         ensures { λ r. ⌜ r ≡ refusalOn plate self ⌝ }
     {
-        if !plate.fits() {
-            return refusal::PLATE;
-        }
-        self.fields().refusal(plate)
+        first(plate.refusal(), self.fields().refusal(plate))
     }
 
     // The fields that the rules ask.
@@ -82,22 +81,20 @@ impl Fields {
     fn refusal(self, plate: Nameplate) -> u8
         ensures { λ r. ⌜ r ≡ fieldsRefusal plate self ⌝ }
     {
+        let steps = plate.steps.0;
         let units = self.units.0 as u64;
         let range = self.range.0 as u64;
         let scaling = scaling(self.operating);
         let most = units * plate.turns.0 as u64;
-        if reserved(self.four, self.operating) {
-            return refusal::RESERVED_BIT;
-        }
-        if scaling & ((units == 0) | (plate.steps.0 < units)) {
-            return refusal::REVOLUTION_UNITS;
-        }
-        if scaling & ((range < units) | (most < range)) {
-            return refusal::TOTAL_RANGE;
-        }
-        if 3 < self.speed {
-            return refusal::SPEED_UNIT;
-        }
-        0
+        let units_outside = (units == 0) | (steps < units);
+        let range_outside = (range < units) | (most < range);
+        let bits_wrong = when(reserved(self.four, self.operating), refusal::RESERVED_BIT);
+        let units_wrong = when(scaling & units_outside, refusal::REVOLUTION_UNITS);
+        let range_wrong = when(scaling & range_outside, refusal::TOTAL_RANGE);
+        let speed_wrong = when(3 < self.speed, refusal::SPEED_UNIT);
+        first(
+            bits_wrong,
+            first(units_wrong, first(range_wrong, speed_wrong)),
+        )
     }
 }

@@ -1,4 +1,6 @@
-// The numbers of the refusals, named after the trade's words (document 01, "When a call is turned away").
+// The numbers of the refusals, named after the trade's words (document 01, "When a call is turned away"), and their order.
+ghost use mathlib.Core.Path.{_≡_};
+ghost use Rattle.encoder.specs.Refusal.{when, _before_};
 
 // Telegram not 17 octets, block not 11.
 pub const LENGTH: u8 = 1;
@@ -47,3 +49,17 @@ pub const FORM: u8 = 15;
 
 // No started axis, or a record outside its limits.
 pub const NO_AXIS: u8 = 16;
+
+// The refusal n where a test holds, and else none.
+pub fn when(test: bool, n: u8) -> u8
+    ensures { λ r. ⌜ r ≡ when test n ⌝ }
+{
+    if test { n } else { 0 }
+}
+
+// The first refusal of two, in their order: 0 is none.
+pub fn first(one: u8, other: u8) -> u8
+    ensures { λ r. ⌜ r ≡ (one before other) ⌝ }
+{
+    if one != 0 { one } else { other }
+}

@@ -9,8 +9,8 @@ use Prim.Native.Nat.{ℕ, zero, suc}
 use lib.Dec.{eqb}
 use lib.IntN.{ℤ}
 use lib.ListN.{length}
-use Rattle.encoder.specs.Refusal.{wrongPlate, wrongBuffer, when, _before_}
-use Rattle.encoder.specs.Nameplate.{plateFits}
+use Rattle.encoder.specs.Refusal.{wrongBuffer, when, _before_}
+use Rattle.encoder.specs.Nameplate.{plateRefusal}
 use Rattle.encoder.proofs.RefusalLaws.{before-none}
 use Rattle.travel.specs.Travel.{started}
 use Rattle.axis.specs.declared.Axis.{Axis}
@@ -54,7 +54,7 @@ module _ (d : Device) (first : ℕ) (raws positions : List ℕ) where
   call = batching raws positions
 
   abbrev plate : ℕ
-  plate = when (not (plateFits (d .plate))) wrongPlate
+  plate = plateRefusal (d .plate)
 
   abbrev lengths : ℕ
   lengths = when (not (eqb (length raws) (length positions))) wrongBuffer

@@ -8,6 +8,7 @@ use native.Mathlib.Omega.{arith}
 use lib.IntN.{ℤ, pos}
 use lib.ListN.{getD}
 use Rattle.integer.specs.Modulus.{_modulo_}
+use Rattle.encoder.specs.Nameplate.{plateRefusal}
 use Rattle.encoder.specs.Parameters.{fieldsRefusal, refusalOn}
 use Rattle.encoder.specs.InForce.{rulesOf}
 use Rattle.travel.specs.Travel.{oriented, difference, moveRefusal}
@@ -40,7 +41,7 @@ steady i = pos 6
 
 -- the table takes the call, and the true steps are as supposed
 taken : refusal listing ≡ 0
-unfolding startRawRefusal refusalOn fieldsRefusal refusalIn moveRefusal difference oriented _modulo_ rulesOf
+unfolding startRawRefusal refusalOn plateRefusal fieldsRefusal refusalIn moveRefusal difference oriented _modulo_ rulesOf
 taken = refl
 
 shown : Supposed (device listing) 28 (4 ∷ 10 ∷ []) steady

@@ -7,7 +7,7 @@
 -- from g × M / R, counted around the total range L. Here g is the true steps up to its own raw number, counted from the sensor's zero. And the answer
 -- is the table's number, so that no call is turned away that the table takes.
 --
--- The claim is of any function that C could call so, and sees nothing of it but its answer and the list that it leaves. Worthless.antt in proofs/
+-- The claim is of any function that C could call so, and sees only its answer and the list that it leaves. Worthless.antt in proofs/
 -- refutes functions that show one position throughout or turn every call away, and Exported.antt proves the claim of ours.
 -- Assumes nothing.
 use mathlib.Core.Path.{_≡_}
@@ -17,12 +17,12 @@ use Prim.Native.Nat.{ℕ}
 use lib.Dec.{eqb}
 use lib.IntN.{ℤ}
 use lib.ListN.{length}
-use Rattle.encoder.specs.Refusal.{wrongPlate, wrongBuffer, when, _before_}
-use Rattle.encoder.specs.Nameplate.{plateFits}
+use Rattle.encoder.specs.Refusal.{wrongBuffer, when, _before_}
+use Rattle.encoder.specs.Nameplate.{plateRefusal, plainPlate}
 use Rattle.accuracy.specs.Calls.{firstNumber, batching}
 use Rattle.accuracy.specs.Ledger.{Device, startBy, opened, refusalBy}
 use Rattle.accuracy.specs.Claim.{Supposed, Entries}
-use Rattle.exports.specs.Numbers.{plateOf, parametersOf}
+use Rattle.exports.specs.Numbers.{parametersOf}
 use Rattle.exports.specs.Run.{runRefusal, ran}
 
 -- what C gives: R, T, the class, the fields of the parameters as sent, the raw numbers, and the lent list
@@ -48,7 +48,7 @@ pub record Function : Type 0 where
 abbrev pub device : Arguments → Device
 device c =
     record {
-      plate = plateOf (c .steps) (c .turns) 0;
+      plate = plainPlate (c .steps) (c .turns) 0;
       parameters = parametersOf (c .four) (c .operating) (c .units) (c .range) (c .life) (c .speed);
     }
 
@@ -64,7 +64,7 @@ encoderBatch =
 abbrev pub refusal : Arguments → ℕ
 refusal c =
     let d = device c in
-    when (not (plateFits (d .plate))) wrongPlate
+    plateRefusal (d .plate)
     before when (not (eqb (length (c .raws)) (length (c .positions)))) wrongBuffer
     before startBy d (firstNumber (c .first))
     before refusalBy d (opened d (c .first)) (batching (c .raws) (c .positions))

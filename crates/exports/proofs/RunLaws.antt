@@ -1,7 +1,6 @@
 -- A batch from its start on: each way out, by the answers of the calls on that way.
 -- Assumes nothing.
-use mathlib.Core.Path.{_≡_, refl, sym, ap, _∙_}
-use mathlib.Core.Bool.{true, false}
+use mathlib.Core.Path.{_≡_, refl, _∙_}
 use mathlib.Core.List.{List}
 use Prim.Native.Nat.{ℕ, zero, suc}
 use lib.ListN.{length}
@@ -9,9 +8,8 @@ use borrow.Author.Tests.{eq-eqb, ne-eqb}
 use Rattle.encoder.specs.declared.nameplate.Nameplate.{Nameplate}
 use Rattle.encoder.specs.declared.parameters.Parameters.{Parameters}
 use Rattle.encoder.specs.Refusal.{_before_, answer}
-use Rattle.encoder.specs.Nameplate.{plateFits}
-use Rattle.encoder.proofs.RefusalLaws.{refused-is, before-first}
-use Rattle.encoder.proofs.PlateLaws.{plate-failed, plate-passed}
+use Rattle.encoder.specs.Nameplate.{plateRefusal}
+use Rattle.encoder.proofs.RefusalLaws.{first-no, number-is}
 use Rattle.axis.specs.declared.Axis.{Axis}
 use Rattle.axis.specs.declared.Next.{Next}
 use Rattle.axis.specs.Reading.{next, startRaw}
@@ -27,52 +25,34 @@ list-by a raws out = go (batchRefusal a raws out)
     go zero = refl
     go (suc k) = refl
 
-module _ (n : Nameplate) (p : Parameters) (first : ℕ) (raws out : List ℕ) where
-  pub run-7 : plateFits n ≡ false → 7 ≡ runRefusal n p first raws out
-  unfolding runRefusal
-  run-7 failed = rw failed
-
-  pub run-7-kept : plateFits n ≡ false → out ≡ ran n p first raws out
-  unfolding runRefusal ran
-  run-7-kept failed = rw failed
-
-  module _ (ne : length raws ≡ length out → ⊥) (passed : plateFits n ≡ true) where
-    pub run-13 : 13 ≡ runRefusal n p first raws out
+-- the number and the list, by the numbers k of the plate, s of the start, and of the batch
+module _ (n : Nameplate) (p : Parameters) (first : ℕ) (raws out : List ℕ) (k : ℕ) (k-is : k ≡ plateRefusal n) where
+  module _ {A : Type 0} (refused : ℕ → A) (taken x : A) where
+    pub run-plate : (k ≡ 0 → ⊥) → x ≡ refused k → x ≡ answer refused taken (runRefusal n p first raws out)
     unfolding runRefusal
-    run-13 = rw (passed, ne-eqb _ _ ne)
+    run-plate ne x-is = first-no refused taken x (plateRefusal n) _ k k-is ne x-is
 
-    pub run-13-kept : out ≡ ran n p first raws out
-    unfolding runRefusal ran
-    run-13-kept = rw (passed, ne-eqb _ _ ne)
-
-  module _ (s : Next) (long : length raws ≡ length out) (s-is : s ≡ startRaw n p first) (passed : plateFits n ≡ true) where
-    abbrev later : ℕ
-    later = batch (s .axis) raws out .refusal
-
-    number-is : runRefusal n p first raws out ≡ (s .refusal before later)
+    pub run-lengths : k ≡ 0 → (length raws ≡ length out → ⊥) → x ≡ refused 13 → x ≡ answer refused taken (runRefusal n p first raws out)
     unfolding runRefusal
-    number-is = rw (passed, eq-eqb _ _ long, ← s-is)
+    run-lengths none ne x-is = x-is ∙ rw (← k-is, none, ne-eqb _ _ ne)
 
-    module _ (ne : s .refusal ≡ 0 → ⊥) where
-      pub run-start : s .refusal ≡ runRefusal n p first raws out
-      run-start = sym (number-is ∙ before-first (s .refusal) later ne)
+  module _ (none : k ≡ 0) (long : length raws ≡ length out) (s : Next) (s-is : s ≡ startRaw n p first) where
+    later : runRefusal n p first raws out ≡ (s .refusal before batch (s .axis) raws out .refusal)
+    unfolding runRefusal
+    later = rw (← k-is, none, eq-eqb _ _ long, ← s-is)
 
-      pub run-start-kept : out ≡ ran n p first raws out
-      unfolding ran
-      run-start-kept = rw (← run-start, refused-is (λ (_ : ℕ). out) (batchList (startRaw n p first .axis) raws out) (s .refusal) ne)
+    pub run-start : {A : Type 0} (refused : ℕ → A) (taken x : A) → (s .refusal ≡ 0 → ⊥) → x ≡ refused (s .refusal) → x ≡ answer refused taken (runRefusal n p first raws out)
+    run-start refused taken x ne x-is = rw later (first-no refused taken x (s .refusal) _ (s .refusal) refl ne x-is)
 
-    module _ (none : s .refusal ≡ 0) where
-      by-batch : runRefusal n p first raws out ≡ later
-      by-batch = number-is ∙ ap (λ (k : ℕ). k before later) none
+    module _ (taken-on : s .refusal ≡ 0) where
+      pub run-number : (x : Next) → x ≡ batch (s .axis) raws out → x .refusal ≡ answer (λ (k : ℕ). k) 0 (runRefusal n p first raws out)
+      run-number x x-is = rw (later, taken-on, x-is) (number-is (batch (s .axis) raws out .refusal))
 
-      pub run-batch : (x : Next) → x ≡ batch (s .axis) raws out → x .refusal ≡ runRefusal n p first raws out
-      run-batch x x-is = ap (λ (y : Next). y .refusal) x-is ∙ sym by-batch
+      pub run-list : (l : List ℕ) → l ≡ batchList (s .axis) raws out
+          → l ≡ answer (λ (_ : ℕ). out) (batchList (startRaw n p first .axis) raws out) (runRefusal n p first raws out)
+      run-list l l-is = l-is ∙ rw (later, taken-on, ← s-is) (list-by (s .axis) raws out)
 
-      pub run-list : (l : List ℕ) → l ≡ batchList (s .axis) raws out → l ≡ ran n p first raws out
-      unfolding ran
-      run-list l l-is = l-is ∙ rw (by-batch, ← s-is) (list-by (s .axis) raws out)
-
-pub ruleset running = (plate-failed, plate-passed, run-7, run-7-kept, run-13, run-13-kept, run-start, run-start-kept, run-batch, run-list)
+pub ruleset running = (run-plate, run-lengths, run-start, run-number, run-list)
 
 -- ---- the same, of the plate and the parameters that the numbers stand for
 module _ (n m : Nameplate) (p q : Parameters) (first : ℕ) (raws out : List ℕ) where

@@ -1,23 +1,18 @@
--- Plate and parameters as plain numbers, as other languages bring and take them.
+-- Parameters as plain numbers, as other languages bring and take them.
 -- Assumes nothing.
 use Prim.Native.Nat.{ℕ}
 use mathlib.Core.Path.{_≡_}
 use mathlib.Core.Bool.{cond, not}
 use mathlib.Core.List.{List, [], _∷_}
 use lib.Dec.{eqb}
-use lib.ListN.{length, replicate}
+use lib.ListN.{length}
 use Rattle.encoder.specs.declared.nameplate.Nameplate.{Nameplate}
 use Rattle.encoder.specs.declared.parameters.Parameters.{Parameters}
 use Rattle.encoder.specs.declared.parameters.Parameters.the-variants.{Class2, Class4}
-use Rattle.encoder.specs.Refusal.{wrongPlate, wrongBuffer, when, _before_, answer}
-use Rattle.encoder.specs.Nameplate.{plateFits}
+use Rattle.encoder.specs.Refusal.{wrongBuffer, when, _before_, answer}
+use Rattle.encoder.specs.Nameplate.{plateRefusal}
 use Rattle.reader.specs.declared.Received.{Received}
 use Rattle.reader.specs.declared.Received.the-variants.{Taken, Refused}
-
--- a plate by R, T and ident; its other fields have no part in the calls, and are zero
-abbrev pub plateOf : ℕ → ℕ → ℕ → Nameplate
-plateOf steps turns ident =
-    record { steps = record { 0 = steps }; turns = record { 0 = turns }; ident = ident; software = replicate 2 0; serial = replicate 10 0 }
 
 -- parameters of class 2 where the first number is 0, and of class 4 where it is any other
 abbrev pub parametersOf : ℕ → ℕ → ℕ → ℕ → ℕ → ℕ → Parameters
@@ -41,8 +36,7 @@ readersRefusal (Taken p) = 0
 readersRefusal (Refused n) = n
 
 unfoldable pub takeRefusal : Nameplate → ℕ → Received → List ℕ → ℕ
-takeRefusal n size x out =
-    when (not (plateFits n)) wrongPlate before when (not (eqb (length out) size)) wrongBuffer before readersRefusal x
+takeRefusal n size x out = plateRefusal n before when (not (eqb (length out) size)) wrongBuffer before readersRefusal x
 
 -- the list: the numbers, or as it was
 abbrev pub numbersIn : Received → List ℕ → List ℕ

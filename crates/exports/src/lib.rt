@@ -1,16 +1,16 @@
 // The library for other languages: a batch from its start on, and the readers of both classes, on numbers and lent lists. Each function
-// answers 0, or the number of the refusal, and then leaves the lent list as it was. `c/encoder.h` declares them for C.
+// answers 0, or the number of the refusal, and then leaves the lent list as it was. `c/encoder.h` declares them for C. The plate has R, T and
+// ident: its other fields have no part in these calls.
 mod run;
 mod take;
 
 ghost use mathlib.Core.Path.{_≡_};
 ghost use Rattle.reader.specs.Read.{readTelegram, readBlock};
-ghost use Rattle.exports.specs.Numbers.{plateOf, parametersOf, takeRefusal, taken};
+ghost use Rattle.encoder.specs.Nameplate.{plainPlate};
+ghost use Rattle.exports.specs.Numbers.{parametersOf, takeRefusal, taken};
 ghost use Rattle.exports.specs.Run.{runRefusal, ran};
 use encoder::nameplate::Nameplate;
 use encoder::parameters::Parameters;
-use encoder::quantity::Steps;
-use encoder::quantity::Turns;
 use encoder::quantity::Units;
 use reader::read_block;
 use reader::read_telegram;
@@ -33,10 +33,10 @@ pub extern "C" fn encoder_batch(
     raws: &[u32],
     positions: &mut [u32],
 ) -> u8
-    ensures { λ r. ⌜ (r ≡ runRefusal (plateOf steps turns 0) (parametersOf four operating units range life speed) first (now (raws .entry)) (now (positions .entry)))
-        × (now (positions .exit) ≡ ran (plateOf steps turns 0) (parametersOf four operating units range life speed) first (now (raws .entry)) (now (positions .entry))) ⌝ }
+    ensures { λ r. ⌜ (r ≡ runRefusal (plainPlate steps turns 0) (parametersOf four operating units range life speed) first (now (raws .entry)) (now (positions .entry)))
+        × (now (positions .exit) ≡ ran (plainPlate steps turns 0) (parametersOf four operating units range life speed) first (now (raws .entry)) (now (positions .entry))) ⌝ }
 {
-    let plate = nameplate(steps, turns, 0);
+    let plate = Nameplate::plain(steps, turns, 0);
     let sent = parameters(four, operating, units, range, life, speed);
     run(plate, sent, first, raws, positions)
 }
@@ -50,10 +50,10 @@ pub extern "C" fn encoder_read_telegram(
     telegram: &[u8],
     parameters: &mut [u32],
 ) -> u8
-    ensures { λ r. ⌜ (r ≡ takeRefusal (plateOf steps turns ident) 3 (readTelegram (plateOf steps turns ident) (now (telegram .entry))) (now (parameters .entry)))
-        × (now (parameters .exit) ≡ taken (plateOf steps turns ident) 3 (readTelegram (plateOf steps turns ident) (now (telegram .entry))) (now (parameters .entry))) ⌝ }
+    ensures { λ r. ⌜ (r ≡ takeRefusal (plainPlate steps turns ident) 3 (readTelegram (plainPlate steps turns ident) (now (telegram .entry))) (now (parameters .entry)))
+        × (now (parameters .exit) ≡ taken (plainPlate steps turns ident) 3 (readTelegram (plainPlate steps turns ident) (now (telegram .entry))) (now (parameters .entry))) ⌝ }
 {
-    let plate = nameplate(steps, turns, ident);
+    let plate = Nameplate::plain(steps, turns, ident);
     take(plate, 3, read_telegram(plate, telegram), parameters)
 }
 
@@ -65,24 +65,11 @@ pub extern "C" fn encoder_read_block(
     block: &[u8],
     parameters: &mut [u32],
 ) -> u8
-    ensures { λ r. ⌜ (r ≡ takeRefusal (plateOf steps turns 0) 5 (readBlock (plateOf steps turns 0) (now (block .entry))) (now (parameters .entry)))
-        × (now (parameters .exit) ≡ taken (plateOf steps turns 0) 5 (readBlock (plateOf steps turns 0) (now (block .entry))) (now (parameters .entry))) ⌝ }
+    ensures { λ r. ⌜ (r ≡ takeRefusal (plainPlate steps turns 0) 5 (readBlock (plainPlate steps turns 0) (now (block .entry))) (now (parameters .entry)))
+        × (now (parameters .exit) ≡ taken (plainPlate steps turns 0) 5 (readBlock (plainPlate steps turns 0) (now (block .entry))) (now (parameters .entry))) ⌝ }
 {
-    let plate = nameplate(steps, turns, 0);
+    let plate = Nameplate::plain(steps, turns, 0);
     take(plate, 5, read_block(plate, block), parameters)
-}
-
-// The plate's other fields have no part in these calls, and are zero.
-fn nameplate(steps: u32, turns: u32, ident: u16) -> Nameplate
-    ensures { λ r. ⌜ r ≡ plateOf steps turns ident ⌝ }
-{
-    Nameplate {
-        steps: Steps(steps as u64),
-        turns: Turns(turns),
-        ident,
-        software: [0; 2],
-        serial: [0; 10],
-    }
 }
 
 fn parameters(four: u8, operating: u8, units: u32, range: u32, life: u8, speed: u8) -> Parameters

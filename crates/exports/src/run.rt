@@ -17,8 +17,9 @@ pub(crate) fn run(
     ensures { λ r. ⌜ (r ≡ runRefusal plate parameters first (now (raws .entry)) (now (positions .entry)))
         × (now (positions .exit) ≡ ran plate parameters first (now (raws .entry)) (now (positions .entry))) ⌝ }
 {
-    if !plate.fits() {
-        return refusal::PLATE;
+    let wrong = plate.refusal();
+    if wrong != 0 {
+        return wrong;
     }
     if raws.len() != positions.len() {
         return refusal::BUFFER;

@@ -14,8 +14,9 @@ pub(crate) fn take(plate: Nameplate, size: usize, received: Received, list: &mut
     ensures { λ r. ⌜ (r ≡ takeRefusal plate size received (now (list .entry)))
         × (now (list .exit) ≡ taken plate size received (now (list .entry))) ⌝ }
 {
-    if !plate.fits() {
-        return refusal::PLATE;
+    let wrong = plate.refusal();
+    if wrong != 0 {
+        return wrong;
     }
     if list.len() != size {
         return refusal::BUFFER;

@@ -9,6 +9,7 @@ use Rattle.integer.specs.Modulus.{_modulo_}
 use Rattle.ring.specs.Ring.{inRange}
 use Rattle.encoder.specs.Combinations.{plate}
 use Rattle.encoder.specs.declared.parameters.Parameters.the-variants.{Class2}
+use Rattle.encoder.specs.Nameplate.{plateRefusal}
 use Rattle.encoder.specs.Parameters.{fieldsRefusal, refusalOn}
 use Rattle.encoder.specs.InForce.{rulesOf, rulesFit}
 use Rattle.sensor.specs.Reading.{stepRefusal}
@@ -26,7 +27,7 @@ last a = a .travel .last .0
 
 -- computed: the last reading before and after, and the numbers of both readings
 works : (last listing ≡ 28) × (last (read listing 4 0 .axis) ≡ 4) × (read listing 4 0 .refusal ≡ 0) × (read listing 0 4 .refusal ≡ 9)
-unfolding _modulo_ inRange fieldsRefusal refusalOn rulesOf rulesFit stepRefusal inside oriented started difference shorter moveOf moveRefusal movedTo travelRefusal rulesOn acceptable axisRefusal startRefusal start atRaw readRefusal read
+unfolding _modulo_ inRange fieldsRefusal refusalOn plateRefusal rulesOf rulesFit stepRefusal inside oriented started difference shorter moveOf moveRefusal movedTo travelRefusal rulesOn acceptable axisRefusal startRefusal start atRaw readRefusal read
 works = (refl, refl, refl, refl)
 
 pub no-record-left : ((a : Axis) (s t : ℕ) → read a s t .axis ≡ a) → ⊥

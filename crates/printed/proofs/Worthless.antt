@@ -8,6 +8,7 @@ use native.Mathlib.Omega.{arith}
 use lib.IntN.{pos}
 use Rattle.integer.specs.Modulus.{_modulo_}
 use Rattle.ring.specs.Ring.{inRange}
+use Rattle.encoder.specs.Nameplate.{plateRefusal}
 use Rattle.encoder.specs.Parameters.{fieldsRefusal, refusalOn}
 use Rattle.encoder.specs.InForce.{rulesOf, rulesFit}
 use Rattle.travel.specs.Travel.{inside, oriented, started, unshifted}
@@ -39,12 +40,12 @@ module _ (p : Program) where
 
   -- what the claim asks: after (read 28) a position that agrees with the ledger, after (preset 0) position 0
   asks : Claim p → Stands (kept listing (opened listing 28)) (p .answer ready read28) × (told (p .answer standing preset0) ≡ 0)
-  unfolding Printed form axis sequence scale read preset past ends digitOf digits number labelled last refusalOn fieldsRefusal startRawRefusal valueRefusal inRange rulesOf _modulo_
+  unfolding Printed form axis sequence scale read preset past ends digitOf digits number labelled last refusalOn plateRefusal fieldsRefusal startRawRefusal valueRefusal inRange rulesOf _modulo_
   asks claim = let t = claim (heard setup ∷ heard read28 ∷ heard preset0 ∷ []) tt .1 tt in (t .0, t .1 tt .0 .1)
 
 -- what is printed, computed
 prints : (always0 .answer (ready always0) read28 ≡ At 0) × (ignoresPresets .answer (standing ignoresPresets) preset0 ≡ At 1)
-unfolding form axis sequence scale read preset past ends digitOf digits number labelled last reply setUp readBy presetBy unstarted after shown refusalOn fieldsRefusal startRawRefusal startRaw valueRefusal inRange rulesOf rulesFit inside oriented started unshifted rulesOn acceptable axisRefusal unshiftedOf reported presetRefusal asked presetted presetOn _modulo_
+unfolding form axis sequence scale read preset past ends digitOf digits number labelled last reply setUp readBy presetBy unstarted after shown refusalOn plateRefusal fieldsRefusal startRawRefusal startRaw valueRefusal inRange rulesOf rulesFit inside oriented started unshifted rulesOn acceptable axisRefusal unshiftedOf reported presetRefusal asked presetted presetOn _modulo_
 prints = (refl, refl)
 
 -- ---- refuses every line: (read 28) is due a position

@@ -10,7 +10,7 @@
 -- Supposed is, as in the distance rule, of each raw number that is taken after the first: the shaft has truly moved by m steps since the one before,
 -- by less than half the sensor's range either way, and the sensor shows where it came to.
 --
--- The claim is of any log program, and sees nothing of it but its answer to each line. Printed.antt in proofs/ proves it of axislog; Worthless.antt
+-- The claim is of any log program, and sees only its answer to each line. Printed.antt in proofs/ proves it of axislog; Worthless.antt
 -- there refutes it of a program that refuses every line, of one that always shows 0, and of one that ignores presets.
 -- Assumes nothing.
 use mathlib.Core.Path.{_≡_}

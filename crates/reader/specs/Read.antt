@@ -1,7 +1,7 @@
 -- The readers of both classes (document 01, "Class 2 telegram", "Class 4 block"; rows 1, 2 and 7 of "When a call is turned away").
 -- Assumes nothing.
 use Prim.Native.Nat.{ℕ}
-use mathlib.Core.Bool.{cond, not}
+use mathlib.Core.Bool.{not}
 use mathlib.Core.List.{List}
 use lib.Dec.{eqb}
 use lib.ListN.{length}
@@ -11,8 +11,8 @@ use Rattle.encoder.specs.declared.parameters.Parameters.{Parameters}
 use Rattle.encoder.specs.declared.parameters.Parameters.the-variants.{Class2, Class4}
 use Rattle.reader.specs.declared.Received.{Received}
 use Rattle.reader.specs.declared.Received.the-variants.{Taken, Refused}
-use Rattle.encoder.specs.Refusal.{wrongLength, otherIdent, wrongPlate, answer}
-use Rattle.encoder.specs.Nameplate.{plateFits}
+use Rattle.encoder.specs.Refusal.{wrongLength, otherIdent, when, _before_, answer}
+use Rattle.encoder.specs.Nameplate.{plateRefusal}
 use Rattle.encoder.specs.Parameters.{parametersRefusal}
 
 -- the answer of a reader: the parameters, or the number of the refusal
@@ -30,10 +30,10 @@ telegramParameters t = Class2 (octet 9 t) (record { 0 = bigEndian (part 10 13 t)
 -- the order of refusals: 7, 1, 2, 3, 4, 5
 unfoldable pub telegramRefusal : Nameplate → List ℕ → ℕ
 telegramRefusal n t =
-    cond (not (plateFits n)) wrongPlate
-    (cond (not (eqb (length t) 17)) wrongLength
-    (cond (not (eqb (identIn t) (n .ident))) otherIdent
-    (parametersRefusal n (telegramParameters t))))
+    plateRefusal n
+    before when (not (eqb (length t) 17)) wrongLength
+    before when (not (eqb (identIn t) (n .ident))) otherIdent
+    before parametersRefusal n (telegramParameters t)
 
 unfoldable pub readTelegram : Nameplate → List ℕ → Received
 readTelegram n t = received (telegramRefusal n t) (telegramParameters t)
@@ -45,10 +45,7 @@ blockParameters b =
 
 -- the order of refusals: 7, 1, 3, 4, 5, 6
 unfoldable pub blockRefusal : Nameplate → List ℕ → ℕ
-blockRefusal n b =
-    cond (not (plateFits n)) wrongPlate
-    (cond (not (eqb (length b) 11)) wrongLength
-    (parametersRefusal n (blockParameters b)))
+blockRefusal n b = plateRefusal n before when (not (eqb (length b) 11)) wrongLength before parametersRefusal n (blockParameters b)
 
 unfoldable pub readBlock : Nameplate → List ℕ → Received
 readBlock n b = received (blockRefusal n b) (blockParameters b)

@@ -1,13 +1,12 @@
 // The readers of both classes (document 01, "Class 2 telegram" and "Class 4 block").
 ghost use mathlib.Core.Path.{_≡_};
-ghost use mathlib.Core.Bool.{true};
-ghost use Rattle.encoder.specs.Nameplate.{plateFits};
-ghost use Rattle.encoder.specs.Parameters.{parametersRefusal};
 ghost use Rattle.reader.specs.Read.{received, readTelegram, readBlock};
 use encoder::nameplate::Nameplate;
 use encoder::parameters::Parameters;
 use encoder::quantity::Units;
 use encoder::refusal;
+use encoder::refusal::first;
+use encoder::refusal::when;
 use octets::number;
 
 pub enum Received {
@@ -19,16 +18,14 @@ pub enum Received {
 pub fn read_telegram(plate: Nameplate, telegram: &[u8]) -> Received
     ensures { λ r. ⌜ r ≡ readTelegram plate (now (telegram .entry)) ⌝ }
 {
-    if !plate.fits() {
-        return Received::Refused(refusal::PLATE);
+    let wrong = plate.refusal();
+    if wrong != 0 {
+        return Received::Refused(wrong);
     }
     if telegram.len() != 17 {
         return Received::Refused(refusal::LENGTH);
     }
     let ident = number(&telegram[4..6]);
-    if ident != plate.ident as u32 {
-        return Received::Refused(refusal::IDENT);
-    }
     let units = number(&telegram[9..13]);
     let range = number(&telegram[13..17]);
     let parameters = Parameters::Class2 {
@@ -36,15 +33,17 @@ pub fn read_telegram(plate: Nameplate, telegram: &[u8]) -> Received
         units: Units(units),
         range: Units(range),
     };
-    judge(plate, parameters)
+    let other = when(ident != plate.ident as u32, refusal::IDENT);
+    judge(first(other, parameters.refusal(plate)), parameters)
 }
 
 // Class 4: a block of 11 octets.
 pub fn read_block(plate: Nameplate, block: &[u8]) -> Received
     ensures { λ r. ⌜ r ≡ readBlock plate (now (block .entry)) ⌝ }
 {
-    if !plate.fits() {
-        return Received::Refused(refusal::PLATE);
+    let wrong = plate.refusal();
+    if wrong != 0 {
+        return Received::Refused(wrong);
     }
     if block.len() != 11 {
         return Received::Refused(refusal::LENGTH);
@@ -58,15 +57,13 @@ pub fn read_block(plate: Nameplate, block: &[u8]) -> Received
         life: block[9],
         speed: block[10],
     };
-    judge(plate, parameters)
+    judge(parameters.refusal(plate), parameters)
 }
 
-// The parameters, unless they are refused on the nameplate.
-fn judge(plate: Nameplate, parameters: Parameters) -> Received
-    requires { ⌜ plateFits plate ≡ true ⌝ }
-    ensures { λ r. ⌜ r ≡ received (parametersRefusal plate parameters) parameters ⌝ }
+// The parameters, or the number of their refusal.
+fn judge(n: u8, parameters: Parameters) -> Received
+    ensures { λ r. ⌜ r ≡ received n parameters ⌝ }
 {
-    let n = parameters.refusal(plate);
     if n != 0 {
         return Received::Refused(n);
     }

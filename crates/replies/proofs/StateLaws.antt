@@ -16,7 +16,7 @@ use Rattle.encoder.specs.declared.parameters.Parameters.the-variants.{Class2}
 use Rattle.encoder.specs.declared.quantity.Units.{Units}
 use Rattle.encoder.specs.Refusal.{answer}
 use Rattle.encoder.specs.Parameters.{refusalOn}
-use Rattle.encoder.proofs.RefusalLaws.{refused-is}
+use Rattle.encoder.proofs.RefusalLaws.{answer-no}
 use Rattle.travel.specs.Travel.{nowhere}
 use Rattle.travel.specs.declared.Reported.{Reported}
 use Rattle.travel.specs.declared.Reported.the-variants.{At as Found, Refused as Outside}
@@ -68,17 +68,6 @@ module _ (a : Axis) (q : Reported) (e : q ≡ reported a) where
   unfolding shown
   shown-outside n v = rw (← e, v)
 
--- ---- after a call
-module _ (s : State) (x : Next) where
-  pub after-refused : (r : Reply) → (x .refusal ≡ 0 → ⊥) → r ≡ refused s (x .refusal) → r ≡ after s x
-  unfolding after
-  after-refused r h e = e ∙ sym (refused-is (refused s) (taken (x .axis)) (x .refusal) h)
-
-  pub after-taken : (a : Answer) → x .refusal ≡ 0 → a ≡ shown (x .axis)
-      → record { state = record { stage = Started; axis = x .axis }; answer = a } ≡ after s x
-  unfolding after
-  after-taken a z e = rw (z, e)
-
 -- ---- an axis form
 module _ (s : State) (f : Setup) (t : State) (n : ℕ) where
   number-is : n ≡ refusalOn (t .axis .nameplate) (t .axis .parameters) → t ≡ unstarted Waiting f → n ≡ refusalOn (plateOf f) (parametersOf f)
@@ -88,7 +77,7 @@ module _ (s : State) (f : Setup) (t : State) (n : ℕ) where
   pub set-up-refused : (r : Reply) → (n ≡ 0 → ⊥) → r ≡ refused s n → n ≡ refusalOn (t .axis .nameplate) (t .axis .parameters)
       → t ≡ unstarted Waiting f → r ≡ setUp s f
   unfolding setUp
-  set-up-refused r h e n-is t-is = e ∙ sym (refused-is (refused s) (ready f) n h) ∙ ap (answer (refused s) (ready f)) (number-is n-is t-is)
+  set-up-refused r h e n-is t-is = answer-no (refused s) (ready f) r _ n (number-is n-is t-is) h e
 
   pub set-up-ready : n ≡ 0 → n ≡ refusalOn (t .axis .nameplate) (t .axis .parameters) → t ≡ unstarted Waiting f
       → record { state = t; answer = Ready } ≡ setUp s f
@@ -146,8 +135,6 @@ pub ruleset replies = (
   unstarted-is,
   shown-at,
   shown-outside,
-  after-refused,
-  after-taken,
   set-up-refused,
   set-up-ready,
   read-none,

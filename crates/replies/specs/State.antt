@@ -3,12 +3,12 @@
 use Prim.Native.Nat.{ℕ, _+_}
 use mathlib.Core.Bool.{false, true}
 use lib.IntN.{ℤ}
-use lib.ListN.{replicate}
 use Rattle.integer.specs.Bits.{at}
 use Rattle.encoder.specs.declared.nameplate.Nameplate.{Nameplate}
 use Rattle.encoder.specs.declared.parameters.Parameters.{Parameters}
 use Rattle.encoder.specs.declared.parameters.Parameters.the-variants.{Class2}
 use Rattle.encoder.specs.Refusal.{noForm, noAxis, answer}
+use Rattle.encoder.specs.Nameplate.{plainPlate}
 use Rattle.encoder.specs.Parameters.{refusalOn}
 use Rattle.travel.specs.Travel.{nowhere}
 use Rattle.travel.specs.declared.Reported.{Reported}
@@ -30,8 +30,7 @@ use Rattle.replies.specs.declared.Reply.{Reply}
 
 -- the plate's other fields are zero
 abbrev pub plateOf : Setup → Nameplate
-plateOf s =
-    record { steps = record { 0 = s .steps }; turns = record { 0 = s .turns }; ident = 0; software = replicate 2 0; serial = replicate 10 0 }
+plateOf s = plainPlate (s .steps) (s .turns) 0
 
 -- octet 9: bit 3 scaling on, bit 1 class 2 on, bit 0 code sequence
 abbrev pub parametersOf : Setup → Parameters

@@ -1,13 +1,11 @@
 // The axis of a log, and what a form does to it (document 01, "The program axislog").
 ghost use mathlib.Core.Path.{_≡_};
-ghost use Rattle.replies.specs.State.{empty, unstarted, plateOf, parametersOf, shown, refused, after, setUp, read, preset, reply};
+ghost use Rattle.replies.specs.State.{empty, unstarted, parametersOf, shown, refused, after, setUp, read, preset, reply};
 use answers::Answer;
 use axis::Axis;
 use axis::Next;
 use encoder::nameplate::Nameplate;
 use encoder::parameters::Parameters;
-use encoder::quantity::Steps;
-use encoder::quantity::Turns;
 use encoder::quantity::Units;
 use encoder::refusal;
 use forms::Form;
@@ -141,7 +139,7 @@ impl State {
         ensures { λ r. ⌜ r ≡ unstarted stage setup ⌝ }
     {
         let axis = Axis {
-            nameplate: nameplate(setup),
+            nameplate: Nameplate::plain(setup.steps, setup.turns, 0),
             parameters: parameters(setup),
             travel: Travel::NOWHERE,
             offset: 0,
@@ -149,19 +147,6 @@ impl State {
             stored: 0,
         };
         State { stage, axis }
-    }
-}
-
-// The plate's other fields are zero.
-fn nameplate(setup: Setup) -> Nameplate
-    ensures { λ r. ⌜ r ≡ plateOf setup ⌝ }
-{
-    Nameplate {
-        steps: Steps(setup.steps as u64),
-        turns: Turns(setup.turns),
-        ident: 0,
-        software: [0; 2],
-        serial: [0; 10],
     }
 }
 

@@ -1,12 +1,12 @@
 // A reading of the sensor and its raw number (document 01, "Plate and reading").
 ghost use mathlib.Core.Path.{_≡_};
-ghost use mathlib.Core.Bool.{true};
-ghost use Rattle.encoder.specs.Nameplate.{plateFits};
-ghost use Rattle.sensor.specs.Reading.{numbered};
+ghost use Rattle.sensor.specs.Reading.{stepRefusal, numbered};
 use encoder::nameplate::Nameplate;
 use encoder::quantity::Steps;
 use encoder::quantity::Turns;
 use encoder::refusal;
+use encoder::refusal::first;
+use encoder::refusal::when;
 
 pub enum Reading {
     Number(u32),
@@ -17,23 +17,18 @@ pub enum Reading {
 pub fn raw_number(plate: Nameplate, step: Steps, turn: Turns) -> Reading
     ensures { λ r. ⌜ r ≡ numbered plate (step .0) (turn .0) ⌝ }
 {
-    if !plate.fits() {
-        return Reading::Refused(refusal::PLATE);
+    let n = refusal_of(plate, step, turn);
+    if n != 0 {
+        return Reading::Refused(n);
     }
-    on_sensor(plate, step, turn)
+    Reading::Number((turn.0 as u64 * plate.steps.0 + step.0) as u32)
 }
 
-// The same on a nameplate within its limits.
-fn on_sensor(plate: Nameplate, step: Steps, turn: Turns) -> Reading
-    requires { ⌜ plateFits plate ≡ true ⌝ }
-    ensures { λ r. ⌜ r ≡ numbered plate (step .0) (turn .0) ⌝ }
+// The refusal of a step and a turn, 0 where they have a raw number.
+fn refusal_of(plate: Nameplate, step: Steps, turn: Turns) -> u8
+    ensures { λ r. ⌜ r ≡ stepRefusal plate (step .0) (turn .0) ⌝ }
 {
-    let steps = plate.steps.0;
-    if steps <= step.0 {
-        return Reading::Refused(refusal::STEP);
-    }
-    if plate.turns.0 <= turn.0 {
-        return Reading::Refused(refusal::TURN);
-    }
-    Reading::Number((turn.0 as u64 * steps + step.0) as u32)
+    let step_wrong = when(plate.steps.0 <= step.0, refusal::STEP);
+    let turn_wrong = when(plate.turns.0 <= turn.0, refusal::TURN);
+    first(plate.refusal(), first(step_wrong, turn_wrong))
 }

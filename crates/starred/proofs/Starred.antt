@@ -7,6 +7,7 @@ use Rattle.integer.specs.Modulus.{_modulo_}
 use Rattle.integer.specs.Clamp.{clamp}
 use Rattle.ring.specs.Ring.{inRange}
 use Rattle.sensor.specs.Reading.{stepRefusal}
+use Rattle.encoder.specs.Nameplate.{plateRefusal}
 use Rattle.encoder.specs.Parameters.{fieldsRefusal, refusalOn}
 use Rattle.encoder.specs.InForce.{rulesOf, inForce, rulesFit}
 use Rattle.reader.specs.Read.{telegramRefusal, readTelegram}
@@ -19,5 +20,5 @@ use Rattle.velocity.specs.Velocity.{factorOf, rateOf, velocityRefusal, velocity
 use Rattle.starred.specs.Starred.{Starred, starred}
 
 pub starred-hold : map (λ (s : Starred). s .computed) starred ≡ map (λ (s : Starred). s .paper) starred
-unfolding bigEndian _modulo_ clamp inRange stepRefusal fieldsRefusal refusalOn rulesOf inForce rulesFit telegramRefusal readTelegram inside oriented started difference shorter moveOf moveRefusal movedTo unshifted positionAt travelRefusal rulesOn acceptable axisRefusal unshiftedOf positionOf reported startRefusal start atRaw readRawRefusal readRaw valueRefusal presetRefusal asked presetted preset factorOf rateOf velocityRefusal velocityAt
+unfolding bigEndian _modulo_ clamp inRange stepRefusal fieldsRefusal refusalOn plateRefusal rulesOf inForce rulesFit telegramRefusal readTelegram inside oriented started difference shorter moveOf moveRefusal movedTo unshifted positionAt travelRefusal rulesOn acceptable axisRefusal unshiftedOf positionOf reported startRefusal start atRaw readRawRefusal readRaw valueRefusal presetRefusal asked presetted preset factorOf rateOf velocityRefusal velocityAt
 starred-hold = refl

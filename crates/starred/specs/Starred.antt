@@ -10,6 +10,7 @@ use Rattle.encoder.specs.declared.parameters.Parameters.{Parameters}
 use Rattle.encoder.specs.declared.parameters.Parameters.the-variants.{Class2, Class4}
 use Rattle.encoder.specs.declared.effect.Effect.{Effect}
 use Rattle.encoder.specs.declared.effect.Effect.the-variants.{Taken as Effective, Refused as NotInForce}
+use Rattle.encoder.specs.Nameplate.{plainPlate}
 use Rattle.encoder.specs.InForce.{inForce}
 use Rattle.reader.specs.declared.Received.{Received}
 use Rattle.reader.specs.declared.Received.the-variants.{Taken, Refused}
@@ -29,19 +30,9 @@ pub record Starred : Type 0 where
   pub paper : List ℤ
 
 -- ---- nameplates and parameters
-abbrev pub plate : ℕ → ℕ → Nameplate
-plate r t =
-    record {
-      steps = record { 0 = r };
-      turns = record { 0 = t };
-      ident = 0;
-      software = replicate 2 0;
-      serial = replicate 10 0;
-    }
-
 -- R = T = 4096
 abbrev pub bench : Nameplate
-bench = plate 4096 4096
+bench = plainPlate 4096 4096 0
 
 -- class 2 on with scaling, clockwise and counter-clockwise; class 4 on with scaling, clockwise
 abbrev pub cw : ℕ → ℕ → Parameters
@@ -79,7 +70,7 @@ velocityTo n p from to e = velocityAt (begun n p from) (to % n .steps .0) (to / 
 
 -- the listing of "The program axislog": read 28, read 4, preset 0, read 3
 abbrev pub first : Axis
-first = begun (plate 10 3) (cw 3 7) 28
+first = begun (plainPlate 10 3 0) (cw 3 7) 28
 
 abbrev pub second : Axis
 second = readRaw first 4 .axis
@@ -118,7 +109,7 @@ starred =
     ∷ record { computed = speed (velocityTo bench (four 1000 4096000 3) 0 4096 100); paper = pos 600 ∷ [] }
     -- R = M = 65,536, T = 32,768, d = 1,073,741,823, e = 1, unit 0: 2,147,483,647
     ∷ record {
-      computed = speed (velocityTo (plate 65536 32768) (cw 65536 2147483648) 0 1073741823 1);
+      computed = speed (velocityTo (plainPlate 65536 32768 0) (cw 65536 2147483648) 0 1073741823 1);
       paper = pos 2147483647 ∷ [];
     }
     -- octets 9 to 17 are taken as M = 1000, L = 4,096,000

@@ -10,19 +10,21 @@ use native.Mathlib.Omega.{arith}
 use lib.IntN.{ℤ}
 use lib.ListN.{length, getD, take, drop, set, length-set, drop-of-length-le}
 use lib.Seq.{drop-cons, take-suc-set, take-all}
-use borrow.Author.Tests.{eq-eqb, ne-eqb, not-false}
+use lib.Dec.{eqb}
+use borrow.Author.Tests.{eq-eqb, ne-eqb, eqb-true, not-false}
 use mir.Syntax.{w64}
 use mir.Val.{Fits, SFits, toZ, ofZ}
 use Rattle.integer.proofs.Size.{reads}
 use Rattle.ring.specs.Ring.{inRange}
 use Rattle.encoder.specs.declared.effect.InForce.{InForce}
 use Rattle.encoder.specs.InForce.{Sound}
-use Rattle.encoder.proofs.RefusalLaws.{refused-is, before-first, before-none}
+use Rattle.encoder.specs.Refusal.{wrongBuffer, noAxis, when, _before_}
+use Rattle.encoder.proofs.RefusalLaws.{before-first, before-none, when-none}
 use Rattle.encoder.proofs.PlateLaws.{and-split}
 use Rattle.travel.specs.declared.Travel.{Travel}
-use Rattle.travel.specs.declared.Moved.the-variants.{To, Refused}
+
 use Rattle.travel.specs.Travel.{inside, Inside, moveOf, moveRefusal, movedTo, positionAt}
-use Rattle.travel.specs.Batch.{refusalIn, after, positionsIn, batchRefusal, batched, batchedList}
+use Rattle.travel.specs.Batch.{refusalIn, after, positionsIn, batchRefusal}
 use Rattle.travel.proofs.SensorLaws.{move-fits, raw-lt, taken-lt}
 use Rattle.travel.proofs.TravelLaws.{inside-true, moved-kept}
 
@@ -113,66 +115,42 @@ going-positions f offset k₀ s k i out fits g h = rw (reads fits) at (going-lis
 
 pub ruleset walks = (raws-lt, going-move, going-start, going-inside, going-more, going-travel, going-positions)
 
--- ---- the ways out: by the tests a of the limits and b of the offset, and the number n of the first refusal
+-- ---- the number of a batch, by the tests a of the limits and b of the offset
 in-range-is : (offset : ℤ) (span : ℕ) (b : Bool) → SFits w64 offset → b ≡ inRange (toZ w64 (ofZ w64 offset)) span → inRange offset span ≡ b
 in-range-is offset span b fits e = sym (rw (reads fits) at e)
 
-module _ (f : InForce) (k : Travel) (offset : ℤ) (s out : List ℕ) (fits : SFits w64 offset) (a b : Bool) where
-  module _ (t : not (a && b) ≡ true) (a-is : a ≡ inside f k) (b-is : b ≡ inRange (toZ w64 (ofZ w64 offset)) (f .span .0)) where
-    pub batch-16 : Refused 16 ≡ batched f k offset s out
-    unfolding batched batchRefusal
-    batch-16 = rw (← a-is, in-range-is offset _ b fits b-is, t)
-
-    pub list-16 : out ≡ batchedList f k offset s out
-    unfolding batchedList batchRefusal
-    list-16 = rw (← a-is, in-range-is offset _ b fits b-is, t)
+module _ (f : InForce) (k : Travel) (offset : ℤ) (s : List ℕ) (room : ℕ) (fits : SFits w64 offset) (a b : Bool) where
+  pub number-16 : not (a && b) ≡ true → a ≡ inside f k → b ≡ inRange (toZ w64 (ofZ w64 offset)) (f .span .0) → 16 ≡ batchRefusal f k offset s room
+  unfolding batchRefusal
+  number-16 t a-is b-is = rw (← a-is, in-range-is offset _ b fits b-is, t)
 
   module _ (t : not (a && b) ≡ false) (a-is : a ≡ inside f k) (b-is : b ≡ inRange (toZ w64 (ofZ w64 offset)) (f .span .0)) where
-    module _ (l : length s ≡ length out → ⊥) where
-      pub batch-13 : Refused 13 ≡ batched f k offset s out
-      unfolding batched batchRefusal
-      batch-13 = rw (← a-is, in-range-is offset _ b fits b-is, t, ne-eqb _ _ l)
+    pub number-13 : (length s ≡ room → ⊥) → 13 ≡ batchRefusal f k offset s room
+    unfolding batchRefusal
+    number-13 l = rw (← a-is, in-range-is offset _ b fits b-is, t, ne-eqb _ _ l)
 
-      pub list-13 : out ≡ batchedList f k offset s out
-      unfolding batchedList batchRefusal
-      list-13 = rw (← a-is, in-range-is offset _ b fits b-is, t, ne-eqb _ _ l)
+    pub number-in : (n : ℕ) → length s ≡ room → n ≡ refusalIn f (k .last .0) s → n ≡ batchRefusal f k offset s room
+    unfolding batchRefusal
+    number-in n l n-is = n-is ∙ rw (← a-is, in-range-is offset _ b fits b-is, t, eq-eqb _ _ l)
 
-    module _ (l : length s ≡ length out) (n : ℕ) (n-is : n ≡ refusalIn f (k .last .0) s) where
-      number-is : batchRefusal f k offset s out ≡ n
-      unfolding batchRefusal
-      number-is = rw (← a-is, in-range-is offset _ b fits b-is, t, eq-eqb _ _ l, ← n-is)
+  module _ (t : not (a && b) ≡ false) (a-is : a ≡ inside f k) where
+    tested : Inside f k
+    tested = inside-true f k (sym a-is ∙ and-split a b (not-false (a && b) t) .0)
 
-      pub batch-no : (n ≡ 0 → ⊥) → Refused n ≡ batched f k offset s out
-      unfolding batched
-      batch-no z = rw number-is (sym (refused-is Refused (To (after f k s)) n z))
+    pub tested-sound : Sound f
+    tested-sound = tested .sound
 
-      pub list-no : (n ≡ 0 → ⊥) → out ≡ batchedList f k offset s out
-      unfolding batchedList
-      list-no z = rw number-is (sym (refused-is (λ (m : ℕ). out) (positionsIn f offset k s) n z))
+    pub tested-last : k .last .0 < f .capacity .0
+    tested-last = tested .last
 
-      pub batch-to : (m : Travel) → n ≡ 0 → m ≡ after f k s → To m ≡ batched f k offset s out
-      unfolding batched
-      batch-to m z m-is = rw (number-is, z, m-is)
+pub ruleset numbers = (number-16, number-13, number-in, tested-sound, tested-last)
 
-      pub list-to : (x : List ℕ) → n ≡ 0 → x ≡ positionsIn f (toZ w64 (ofZ w64 offset)) k s → x ≡ batchedList f k offset s out
-      unfolding batchedList
-      list-to x z x-is = rw (number-is, z) (rw (reads fits) at x-is)
-
--- and what the two walks are asked
-both-true : (a b : Bool) → not (a && b) ≡ false → a ≡ true
-both-true a b t = and-split a b (not-false (a && b) t) .0
-
-module _ (f : InForce) (k : Travel) (a b : Bool) (t : not (a && b) ≡ false) (a-is : a ≡ inside f k) where
-  pub batch-inside : Inside f k
-  batch-inside = inside-true f k (sym a-is ∙ both-true a b t)
-
-  pub batch-sound : Sound f
-  batch-sound = batch-inside .sound
-
-  pub batch-last : k .last .0 < f .capacity .0
-  batch-last = batch-inside .last
-
-pub none-due : (f : InForce) (last n : ℕ) (s : List ℕ) → n ≡ 0 → n ≡ refusalIn f last s → refusalIn f last s ≡ 0
-none-due f last n s z e = sym e ∙ z
-
-pub ruleset batches = (batch-16, list-16, batch-13, list-13, batch-no, list-no, batch-to, list-to, batch-inside, batch-sound, batch-last, none-due)
+-- ---- what a batch that is taken asks of the second walk
+pub batch-taken : (f : InForce) (k : Travel) (offset : ℤ) (s : List ℕ) (room : ℕ) → batchRefusal f k offset s room ≡ 0
+    → Inside f k × (length s ≡ room) × (refusalIn f (k .last .0) s ≡ 0)
+unfolding batchRefusal
+batch-taken f k offset s room none =
+    let later = when (not (eqb (length s) room)) wrongBuffer in
+    let limits = before-none (when (not (inside f k && inRange offset (f .span .0))) noAxis) (later before refusalIn f (k .last .0) s) none in
+    let rest = before-none later (refusalIn f (k .last .0) s) (limits .1) in
+    (inside-true f k (and-split _ _ (when-none _ 15 (limits .0)) .0), eqb-true _ _ (when-none _ 12 (rest .0)), rest .1)

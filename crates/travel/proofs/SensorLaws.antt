@@ -17,8 +17,8 @@ use Rattle.integer.proofs.Size.{reads, abs-is, fits-abs, diff-fits, diff-reads}
 use Rattle.integer.proofs.Modulus.{modulo-lt, modulo-is, modulo-alike}
 use Rattle.encoder.specs.declared.effect.InForce.{InForce}
 use Rattle.encoder.specs.InForce.{Sound}
-use Rattle.encoder.specs.Refusal.{when, _before_, answer}
-use Rattle.encoder.proofs.RefusalLaws.{refused-is}
+use Rattle.encoder.specs.Refusal.{wrongTurn, when, answer}
+use Rattle.encoder.proofs.RefusalLaws.{refused-is, before-none, when-not}
 use Rattle.travel.specs.declared.Approach.{Approach}
 use Rattle.travel.specs.declared.Approach.the-variants.{By, Refused}
 use Rattle.travel.specs.Travel.{oriented, difference, shorter, moveOf, halfRefusal, moveRefusal, approachFrom}
@@ -134,13 +134,6 @@ module _ (f : InForce) (last raw : ℕ) where
   unfolding approachFrom
   approach-9 h = rw (← raw-9 h)
 
-module _ (n c : ℕ) where
-  pub half-not : (2 * n ≡ c → ⊥) → 0 ≡ halfRefusal n c
-  half-not ne = rw (ne-eqb _ _ ne)
-
-  pub half-is : 2 * n ≡ c → 10 ≡ halfRefusal n c
-  half-is e = rw (eq-eqb _ _ e)
-
 -- taken apart
 pub by-taken : (e : Approach) (z d : ℤ) (n : ℕ) → e ≡ By d → e ≡ answer Refused (By z) n → (n ≡ 0) × (d ≡ z)
 by-taken e z d zero t e-is = let h : By d ≡ By z = sym t ∙ e-is in (refl, cc)
@@ -151,34 +144,15 @@ by-refused e z zero j t e-is = let h : Refused j ≡ By z = sym t ∙ e-is in le
 by-refused e z (suc n) j t e-is = let h : Refused j ≡ Refused (suc n) = sym t ∙ e-is in let w : suc n ≡ j = cc in (w, λ v. omega arith)
 
 -- a reading that is taken is one of the sensor's
-raw-below : (c raw m : ℕ) (b : Bool) → leb c raw ≡ b → (when b 9 before m) ≡ 0 → raw < c
-raw-below c raw m true e h = absurd (omega arith)
-raw-below c raw m false e h = leb-false c raw e
-
 pub raw-lt : (f : InForce) (last raw : ℕ) → moveRefusal f last raw ≡ 0 → raw < f .capacity .0
 unfolding moveRefusal
-raw-lt f last raw h = raw-below (f .capacity .0) raw _ (leb (f .capacity .0) raw) refl h
+raw-lt f last raw h = leb-false _ _ (when-not (leb (f .capacity .0) raw) 8 (before-none (when (leb (f .capacity .0) raw) wrongTurn) _ h .0))
 
 pub taken-lt : (f : InForce) (last raw n : ℕ) → n ≡ 0 → n ≡ moveRefusal f last raw → raw < f .capacity .0
 taken-lt f last raw n z e = raw-lt f last raw (sym e ∙ z)
 
-pub ruleset sensors = (
-  oriented-none,
-  oriented-on,
-  oriented-off,
-  apart-ahead,
-  apart-round,
-  difference-off,
-  difference-on,
-  back-fits,
-  way-ahead,
-  way-back,
-  move-is,
-  half-not,
-  half-is,
-  approach-by,
-  approach-9,
-  approach-10,
-  raw-9,
-  raw-half,
-)
+pub ruleset orients = (oriented-none, oriented-on, oriented-off, apart-ahead, apart-round, difference-off, difference-on)
+
+pub ruleset ways = (back-fits, way-ahead, way-back, move-is)
+
+pub ruleset approaches = (approach-by, approach-9, approach-10, raw-9, raw-half)

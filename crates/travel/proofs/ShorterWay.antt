@@ -15,7 +15,7 @@ use Rattle.integer.proofs.Modulus.{modulo-is}
 use Rattle.encoder.specs.declared.effect.InForce.{InForce}
 use Rattle.encoder.specs.Refusal.{wrongTurn, halfRange, when}
 use Rattle.encoder.specs.InForce.{Sound}
-use Rattle.encoder.proofs.RefusalLaws.{before-none}
+use Rattle.encoder.proofs.RefusalLaws.{before-none, when-not}
 use Rattle.travel.specs.Travel.{difference, shorter, moveOf, moveRefusal}
 use Rattle.travel.proofs.SensorLaws.{difference-lt, shorter-ahead, shorter-back}
 
@@ -29,10 +29,6 @@ by-half n c false t lt h =
     rw (shorter-back n c lt k)
     (omega (arith, diff-is (pos n) (pos c), abs-is z, apart z), modulo-is z 1 0 lt (omega (arith, diff-is (pos n) (pos c))))
 
-not-half : (n c : ℕ) (b : Bool) → eqb n c ≡ b → when b 10 ≡ 0 → n ≡ c → ⊥
-not-half n c true e z = absurd (omega arith)
-not-half n c false e z = eqb-false n c e
-
 pub shorter-way : (f : InForce) (last raw : ℕ) → Sound f → moveRefusal f last raw ≡ 0
     → (2 * natAbs (moveOf f last raw) < f .capacity .0) × (moveOf f last raw modulo f .capacity .0 ≡ difference f last raw)
 unfolding moveRefusal moveOf
@@ -40,7 +36,7 @@ shorter-way f last raw s e =
     let n = difference f last raw in
     let c = f .capacity .0 in
     let z = before-none (when (leb c raw) wrongTurn) (when (eqb (2 * n) c) halfRange) e .1 in
-    by-half n c (ltb (2 * n) c) refl (difference-lt f last raw s) (not-half (2 * n) c (eqb (2 * n) c) refl z)
+    by-half n c (ltb (2 * n) c) refl (difference-lt f last raw s) (eqb-false _ _ (when-not (eqb (2 * n) c) 9 z))
 
 -- and no other number is: a move of less than half the range that is the difference modulo C is the one that is found
 only : (m : ℤ) (c : ℕ) → 2 * natAbs m < c → shorter (m modulo c) c ≡ m

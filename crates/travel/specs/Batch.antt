@@ -29,16 +29,16 @@ unfoldable pub positionsIn : InForce → ℤ → Travel → List ℕ → List �
 positionsIn f offset k [] = []
 positionsIn f offset k (raw ∷ raws) = positionAt f offset (movedTo f k raw) ∷ positionsIn f offset (movedTo f k raw) raws
 
--- 16, 13, then 9 and 10
-unfoldable pub batchRefusal : InForce → Travel → ℤ → List ℕ → List ℕ → ℕ
-batchRefusal f k offset raws out =
+-- for a list of so many positions: 16, 13, then 9 and 10
+unfoldable pub batchRefusal : InForce → Travel → ℤ → List ℕ → ℕ → ℕ
+batchRefusal f k offset raws room =
     when (not (inside f k && inRange offset (f .span .0))) noAxis
-    before when (not (eqb (length raws) (length out))) wrongBuffer
+    before when (not (eqb (length raws) room)) wrongBuffer
     before refusalIn f (k .last .0) raws
 
 unfoldable pub batched : InForce → Travel → ℤ → List ℕ → List ℕ → Moved
-batched f k offset raws out = answer Refused (To (after f k raws)) (batchRefusal f k offset raws out)
+batched f k offset raws out = answer Refused (To (after f k raws)) (batchRefusal f k offset raws (length out))
 
 -- the lent list of positions: kept where the batch is refused
 unfoldable pub batchedList : InForce → Travel → ℤ → List ℕ → List ℕ → List ℕ
-batchedList f k offset raws out = answer (λ _. out) (positionsIn f offset k raws) (batchRefusal f k offset raws out)
+batchedList f k offset raws out = answer (λ _. out) (positionsIn f offset k raws) (batchRefusal f k offset raws (length out))

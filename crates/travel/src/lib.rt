@@ -6,7 +6,7 @@ mod raw;
 ghost use mathlib.Core.Path.{_≡_};
 ghost use Rattle.encoder.specs.InForce.{rulesFit};
 ghost use Rattle.travel.specs.Travel.{inside, begun, approached, moved, reportedAt};
-ghost use Rattle.travel.specs.Batch.{batched, batchedList};
+ghost use Rattle.travel.specs.Batch.{batchRefusal, batched, batchedList};
 use encoder::effect::InForce;
 use encoder::quantity::Steps;
 use encoder::quantity::Units;
@@ -110,18 +110,25 @@ impl Travel {
         ensures { λ r. ⌜ (r ≡ batched rules self offset (now (raws .entry)) (now (positions .entry)))
             × (now (positions .exit) ≡ batchedList rules self offset (now (raws .entry)) (now (positions .entry))) ⌝ }
     {
-        let span = rules.span.0;
-        if !(self.inside(rules) & between(offset, span)) {
-            return Moved::Refused(refusal::NO_AXIS);
-        }
-        if raws.len() != positions.len() {
-            return Moved::Refused(refusal::BUFFER);
-        }
-        let n = first_refusal(rules, self.last, raws);
+        let n = self.batch_refusal(rules, offset, raws, positions.len());
         if n != 0 {
             return Moved::Refused(n);
         }
         Moved::To(self.follow(rules, offset, raws, positions))
+    }
+
+    // The refusal of a batch for a list of so many positions, 0 where all readings are taken.
+    fn batch_refusal(self, rules: InForce, offset: i64, raws: &[u32], room: usize) -> u8
+        ensures { λ r. ⌜ r ≡ batchRefusal rules self offset (now (raws .entry)) room ⌝ }
+    {
+        let span = rules.span.0;
+        if !(self.inside(rules) & between(offset, span)) {
+            return refusal::NO_AXIS;
+        }
+        if raws.len() != room {
+            return refusal::BUFFER;
+        }
+        first_refusal(rules, self.last, raws)
     }
 }
 

@@ -10,6 +10,7 @@ use crate::Approach;
 use encoder::effect::InForce;
 use encoder::quantity::Steps;
 use encoder::refusal;
+use encoder::refusal::when;
 
 // A raw number in the direction in force.
 pub(crate) fn oriented(rules: InForce, raw: Steps) -> Steps
@@ -64,10 +65,7 @@ fn half_range(n: Steps, capacity: Steps) -> u8
     requires { ⌜ n .0 < 2 ^ 31 ⌝ }
     ensures { λ r. ⌜ r ≡ halfRefusal (n .0) (capacity .0) ⌝ }
 {
-    if 2 * n.0 != capacity.0 {
-        return 0;
-    }
-    refusal::HALF_RANGE
+    when(2 * n.0 == capacity.0, refusal::HALF_RANGE)
 }
 
 // The move that a new reading makes, or its refusal.

@@ -54,15 +54,8 @@ fn described(line: &[u8]) -> Axis {
 
 // Before the first line that describes an axis: none that any call takes.
 pub(crate) fn none() -> Axis {
-    let plate = Nameplate {
-        steps: Steps(0),
-        turns: Turns(0),
-        ident: 0,
-        software: [0; 2],
-        serial: [0; 10],
-    };
     fresh(
-        plate,
+        Nameplate::plain(0, 0, 0),
         Parameters::Class2 {
             operating: 0,
             units: Units(0),

@@ -9,8 +9,6 @@ use crate::parse::hexadecimal;
 use crate::parse::past_blanks;
 use encoder::nameplate::Nameplate;
 use encoder::parameters::Parameters;
-use encoder::quantity::Steps;
-use encoder::quantity::Turns;
 use encoder::quantity::Units;
 use reader::read_block;
 use reader::read_telegram;
@@ -95,15 +93,8 @@ pub(crate) fn nameplate(line: &[u8]) -> Plated {
     let steps = decimal(line, 8);
     let turns = decimal(line, steps.next);
     let ident = hexadecimal(line, turns.next);
-    let plate = Nameplate {
-        steps: Steps(steps.value as u64),
-        turns: Turns(turns.value),
-        ident: (ident.value % 65536) as u16,
-        software: [0; 2],
-        serial: [0; 10],
-    };
     Plated {
-        plate,
+        plate: Nameplate::plain(steps.value, turns.value, (ident.value % 65536) as u16),
         next: ident.next,
     }
 }

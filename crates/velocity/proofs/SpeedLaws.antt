@@ -22,18 +22,13 @@ use Rattle.travel.specs.Travel.{moveOf, travelRefusal, approached}
 use Rattle.travel.proofs.SensorLaws.{move-most, move-fits, by-taken, by-refused}
 use Rattle.axis.specs.declared.Axis.{Axis}
 use Rattle.axis.specs.Axis.{inForceOn, Ready}
-use Rattle.axis.proofs.AxisLaws.{ready-of, outside-of, stands-none}
+use Rattle.axis.proofs.AxisLaws.{ready-of, outside-answer, stands-none}
 use Rattle.velocity.specs.declared.Speed.the-variants.{At, Refused}
 use Rattle.velocity.specs.Velocity.{rateOf, velocityRefusal, velocityAt}
 use Rattle.velocity.proofs.VelocityLaws.{rate-fits}
 
 pub elapsed-least : (e : ℕ) → (e ≡ 0 → ⊥) → 0 < e
 elapsed-least e h = omega arith
-
--- a record outside its limits
-pub velocity-16 : (a : Axis) (v : Effect) (s t e n : ℕ) → v ≡ NotInForce n → v ≡ inForceOn a → Refused n ≡ velocityAt a s t e
-unfolding velocityAt velocityRefusal
-velocity-16 a v s t e n h v-is = let i = outside-of a v n h v-is in rw (i .0, before-first n _ (i .1)) (sym (refused-is Refused _ n (i .1)))
 
 module _ (a : Axis) (f : InForce) (r : Ready a f) where
   -- the move of a reading that is taken
@@ -80,4 +75,4 @@ module _ (a : Axis) (f : InForce) (r : Ready a f) where
             let j = reading-taken (a .nameplate) s t q raw g q-is in
             rw (number-is 0 (i .0), z-is, reads (rate-fits f (toZ w64 (ofZ w64 d)) e), i .1, reads (move-fits f (a .travel .last .0) raw (r .travel .sound)), j .1, r .is)
 
-pub ruleset speeds = (ready-of, elapsed-least, move-small, velocity-16, velocity-14, velocity-reading, velocity-move, velocity-at)
+pub ruleset speeds = (ready-of, elapsed-least, move-small, outside-answer, velocity-14, velocity-reading, velocity-move, velocity-at)

@@ -2,13 +2,11 @@
 -- nameplate: one theorem for both classes. The buffer's length is known, so that its octets compute, and a number stands in its octets.
 -- Assumes nothing.
 use mathlib.Core.Path.{_≡_, refl, ap, _∙_}
-use mathlib.Core.Bool.{true}
 use mathlib.Core.List.{List}
 use Prim.Native.Nat.{ℕ, zero, suc, _^_, _<_}
 use native.Mathlib.Omega.{arith}
-use lib.Dec.{eqb}
 use lib.ListN.{length}
-use borrow.Author.Tests.{eq-eqb, eqb-true}
+use borrow.Author.Tests.{eq-eqb}
 use Rattle.integer.specs.Octets.{octets}
 use Rattle.integer.proofs.Octets.{known, bigEndian-octets}
 use Rattle.encoder.specs.declared.quantity.Units.{Units}
@@ -16,7 +14,7 @@ use Rattle.encoder.specs.declared.nameplate.Nameplate.{Nameplate}
 use Rattle.encoder.specs.declared.parameters.Parameters.{Parameters}
 use Rattle.encoder.specs.declared.parameters.Parameters.the-variants.{Class2, Class4}
 use Rattle.encoder.specs.Refusal.{answer}
-use Rattle.encoder.specs.Nameplate.{plateFits}
+use Rattle.encoder.specs.Nameplate.{plateRefusal}
 use Rattle.encoder.specs.Parameters.{parametersRefusal}
 use Rattle.reader.specs.declared.Received.the-variants.{Taken}
 use Rattle.reader.specs.Read.{identIn, telegramParameters, telegramRefusal, readTelegram, blockParameters, blockRefusal, readBlock}
@@ -32,19 +30,16 @@ done-is (suc k) e = let z : _≡_ {A = ℕ} 0 1 = cc in absurd (omega arith)
 
 module _ (n : Nameplate) (p : Parameters) (b : List ℕ) (taken : written n p b ≡ Done) where
   number-none : writeRefusal n p (length b) ≡ 0
-  unfolding written
   number-none = done-is (writeRefusal n p (length b)) taken
 
-  tests : (plateFits n ≡ true) × (eqb (length b) (lengthOf p) ≡ true) × (parametersRefusal n p ≡ 0)
-  unfolding writeRefusal
-  tests = passed (plateFits n) (eqb (length b) (lengthOf p)) (parametersRefusal n p) number-none
+  tests : (plateRefusal n ≡ 0) × (length b ≡ lengthOf p) × (parametersRefusal n p ≡ 0)
+  tests = passed n p (length b) number-none
 
   filled : writtenOctets n p b ≡ octetsOf (n .ident) p b
-  unfolding writtenOctets
   filled = rw number-none
 
 -- ---- what the readers take
-module _ (n : Nameplate) (p : Parameters) (t : List ℕ) (fits : plateFits n ≡ true) (none : parametersRefusal n p ≡ 0) where
+module _ (n : Nameplate) (p : Parameters) (t : List ℕ) (fits : plateRefusal n ≡ 0) (none : parametersRefusal n p ≡ 0) where
   telegram-taken : length t ≡ 17 → identIn t ≡ n .ident → telegramParameters t ≡ p → readTelegram n t ≡ Taken p
   unfolding readTelegram telegramRefusal
   telegram-taken long ident is = rw (fits, eq-eqb _ _ long, eq-eqb _ _ ident, ap (parametersRefusal n) is ∙ none) (ap Taken is)
@@ -81,12 +76,11 @@ pub round-trip : (n : Nameplate) (p : Parameters) (b : List ℕ) → Held n p �
 unfolding octetsOf
 round-trip n (Class2 o u r) b h taken =
     let w = tests n (Class2 o u r) b taken in
-    let l : length b ≡ 17 = eqb-true _ _ (w .1) in
     rw (filled n (Class2 o u r) b taken)
     (telegram-taken n (Class2 o u r) (telegramOf (n .ident) o u r b) (w .0) (w .2)
-    (telegram-long b (n .ident) o u r (h .units) (h .range) l)
-    (telegram-ident b (n .ident) o u r (h .units) (h .range) l (h .ident))
-    (telegram-back b (n .ident) o u r (h .units) (h .range) l))
+    (telegram-long b (n .ident) o u r (h .units) (h .range) (w .1))
+    (telegram-ident b (n .ident) o u r (h .units) (h .range) (w .1) (h .ident))
+    (telegram-back b (n .ident) o u r (h .units) (h .range) (w .1)))
 round-trip n (Class4 o u r life speed) b h taken =
     let w = tests n (Class4 o u r life speed) b taken in
     rw (filled n (Class4 o u r life speed) b taken)

@@ -1,27 +1,23 @@
--- What the writer leaves in the buffer, and what it has shown at each way out.
+-- What the writer leaves in the buffer, and what has been tested before.
 -- Assumes nothing.
-use mathlib.Core.Path.{_≡_, refl, sym, _∙_}
-use mathlib.Core.Bool.{Bool, true, false, cond, not}
+use mathlib.Core.Path.{_≡_, sym, _∙_}
+use mathlib.Core.Bool.{not}
 use mathlib.Core.List.{List}
 use Prim.Native.Nat.{ℕ}
-use native.Mathlib.Omega.{arith}
 use lib.Dec.{eqb}
 use lib.ListN.{length, take, drop, set}
 use borrow.Rule.Slice.PartMut.{putMid}
-use borrow.Author.Tests.{eq-eqb, ne-eqb, eqb-true}
+use borrow.Author.Tests.{eqb-true}
 use Rattle.integer.specs.Octets.{octets}
 use Rattle.integer.proofs.Octets.{known}
 use Rattle.encoder.specs.declared.quantity.Units.{Units}
 use Rattle.encoder.specs.declared.nameplate.Nameplate.{Nameplate}
 use Rattle.encoder.specs.declared.parameters.Parameters.{Parameters}
-use Rattle.encoder.specs.declared.parameters.Parameters.the-variants.{Class2, Class4}
-use Rattle.encoder.specs.Nameplate.{plateFits}
+use Rattle.encoder.specs.Refusal.{wrongBuffer, when, _before_}
+use Rattle.encoder.specs.Nameplate.{plateRefusal}
 use Rattle.encoder.specs.Parameters.{parametersRefusal, refusalOn}
-use Rattle.writer.specs.declared.Written.the-variants.{Done, Refused}
-use Rattle.writer.specs.Write.{lengthOf, telegramOf, blockOf, octetsOf, writeRefusal, written, writtenOctets}
-use Rattle.encoder.proofs.RefusalLaws.{refused-is}
-use Rattle.encoder.proofs.PlateLaws.{plate-failed, plate-passed}
-use Rattle.encoder.proofs.ParameterLaws.{on-plate}
+use Rattle.writer.specs.Write.{lengthOf, telegramOf, blockOf, writeRefusal}
+use Rattle.encoder.proofs.RefusalLaws.{before-none, before-again, when-none}
 
 -- three parts and a store fill a telegram
 pub telegram-filled : (t i v w : List ℕ) (ident operating : ℕ) (units range : Units) → length t ≡ 17
@@ -47,70 +43,19 @@ block-filled t v w operating units range life speed h q r =
     let c : w ≡ octets 4 (range .0) = rw (known 11 t h, b) at r in
     rw (known 11 t h, b, c)
 
--- either class
-module _ (b l : List ℕ) (ident : ℕ) (p : Parameters) (o : ℕ) (u r : Units) where
-  module _ (e : p ≡ Class2 o u r) where
-    pub telegram-long : length b ≡ lengthOf p → length b ≡ 17
-    telegram-long h = rw e at h
-
-    pub telegram-octets : l ≡ telegramOf ident o u r b → l ≡ octetsOf ident p b
-    unfolding octetsOf
-    telegram-octets h = rw e h
-
-  module _ (life speed : ℕ) (e : p ≡ Class4 o u r life speed) where
-    pub block-long : length b ≡ lengthOf p → length b ≡ 11
-    block-long h = rw e at h
-
-    pub block-octets : l ≡ blockOf o u r life speed → l ≡ octetsOf ident p b
-    unfolding octetsOf
-    block-octets h = rw e h
-
--- the order of refusals, for a class of m octets
-module _ (n : Nameplate) (p : Parameters) (size m : ℕ) where
-  pub writing-7 : plateFits n ≡ false → 7 ≡ writeRefusal n p size
-  unfolding writeRefusal
-  writing-7 failed = rw failed
-
-  pub writing-13 : (size ≡ m → ⊥) → m ≡ lengthOf p → plateFits n ≡ true → 13 ≡ writeRefusal n p size
-  unfolding writeRefusal
-  writing-13 ne m-is passed = rw (passed, ← m-is, ne-eqb _ _ ne)
-
-  pub writing-judged : (k : ℕ) → size ≡ m → m ≡ lengthOf p → k ≡ refusalOn n p → plateFits n ≡ true → k ≡ writeRefusal n p size
-  unfolding writeRefusal
-  writing-judged k long m-is k-is passed = rw (passed, ← m-is, eq-eqb _ _ long, ← on-plate n p passed, k-is)
+-- the parameters' own 7 never comes: the nameplate's comes first
+pub write-number : (n : Nameplate) (p : Parameters) (size : ℕ) → (plateRefusal n before when (not (eqb size (lengthOf p))) wrongBuffer before refusalOn n p) ≡ writeRefusal n p size
+unfolding writeRefusal refusalOn
+write-number n p size = before-again (plateRefusal n) (parametersRefusal n p) (λ (m : ℕ). when (not (eqb size (lengthOf p))) wrongBuffer before m)
 
 -- a buffer that is written to has passed the tests of nameplate, length and parameters
-pub passed : (a b : Bool) (k : ℕ) → cond (not a) 7 (cond (not b) 13 k) ≡ 0 → (a ≡ true) × (b ≡ true) × (k ≡ 0)
-passed true true k e = (refl, refl, e)
-passed true false k e = absurd (omega arith)
-passed false b k e = absurd (omega arith)
+module _ (n : Nameplate) (p : Parameters) (size : ℕ) where
+  pub passed : writeRefusal n p size ≡ 0 → (plateRefusal n ≡ 0) × (size ≡ lengthOf p) × (parametersRefusal n p ≡ 0)
+  unfolding writeRefusal
+  passed e =
+      let plate = before-none (plateRefusal n) _ e in
+      let length = before-none (when (not (eqb size (lengthOf p))) wrongBuffer) _ (plate .1) in
+      (plate .0, eqb-true _ _ (when-none _ 12 (length .0)), length .1)
 
--- the answer and the buffer
-module _ (n : Nameplate) (p : Parameters) (b : List ℕ) (k : ℕ) where
-  pub refused-answer : (k ≡ 0 → ⊥) → k ≡ writeRefusal n p (length b) → Refused k ≡ written n p b
-  unfolding written
-  refused-answer ne k-is = rw (← k-is, refused-is Refused Done k ne)
-
-  pub refused-kept : (k ≡ 0 → ⊥) → k ≡ writeRefusal n p (length b) → b ≡ writtenOctets n p b
-  unfolding writtenOctets
-  refused-kept ne k-is = rw (← k-is, ne-eqb k 0 ne)
-
-  module _ (none : k ≡ 0) (k-is : k ≡ writeRefusal n p (length b)) where
-    pub right-length : length b ≡ lengthOf p
-    unfolding writeRefusal
-    right-length =
-        eqb-true _ _ (passed (plateFits n) (eqb (length b) (lengthOf p)) (parametersRefusal n p) (sym k-is ∙ none) .1)
-
-    pub done-answer : Done ≡ written n p b
-    unfolding written
-    done-answer = rw (← k-is, none)
-
-    pub done-octets : (l : List ℕ) → l ≡ octetsOf (n .ident) p b → l ≡ writtenOctets n p b
-    unfolding writtenOctets
-    done-octets l l-is = rw (← k-is, none) l-is
-
-pub ruleset classes = (telegram-long, telegram-octets, block-long, block-octets)
-
-pub ruleset refusing = (plate-failed, plate-passed, writing-7, writing-13, writing-judged)
-
-pub ruleset writing = (refused-answer, refused-kept, right-length, done-answer, done-octets)
+  pub right-length : (k : ℕ) → k ≡ 0 → k ≡ writeRefusal n p size → size ≡ lengthOf p
+  right-length k none k-is = passed (sym k-is ∙ none) .1

@@ -1,7 +1,7 @@
 -- The writer of both classes (document 01, "Class 2 telegram", "Class 4 block"; row 13 of "When a call is turned away").
 -- Assumes nothing.
 use Prim.Native.Nat.{ℕ}
-use mathlib.Core.Bool.{cond, not}
+use mathlib.Core.Bool.{not}
 use mathlib.Core.List.{List, [], _∷_, _++_}
 use lib.Dec.{eqb}
 use lib.ListN.{length}
@@ -12,8 +12,8 @@ use Rattle.encoder.specs.declared.parameters.Parameters.{Parameters}
 use Rattle.encoder.specs.declared.parameters.Parameters.the-variants.{Class2, Class4}
 use Rattle.writer.specs.declared.Written.{Written}
 use Rattle.writer.specs.declared.Written.the-variants.{Done, Refused}
-use Rattle.encoder.specs.Refusal.{wrongPlate, wrongBuffer, answer}
-use Rattle.encoder.specs.Nameplate.{plateFits}
+use Rattle.encoder.specs.Refusal.{wrongBuffer, when, _before_, answer}
+use Rattle.encoder.specs.Nameplate.{plateRefusal}
 use Rattle.encoder.specs.Parameters.{parametersRefusal}
 
 -- the length of the parameters' class
@@ -36,14 +36,11 @@ octetsOf ident (Class4 operating units range life speed) b = blockOf operating u
 
 -- the refusal for a buffer of so many octets, in the order 7, 13, 3, 4, 5, 6
 unfoldable pub writeRefusal : Nameplate → Parameters → ℕ → ℕ
-writeRefusal n p size =
-    cond (not (plateFits n)) wrongPlate
-    (cond (not (eqb size (lengthOf p))) wrongBuffer
-    (parametersRefusal n p))
+writeRefusal n p size = plateRefusal n before when (not (eqb size (lengthOf p))) wrongBuffer before parametersRefusal n p
 
 -- the answer, and the buffer as the writer leaves it: filled, or as it was
-unfoldable pub written : Nameplate → Parameters → List ℕ → Written
+abbrev pub written : Nameplate → Parameters → List ℕ → Written
 written n p b = answer Refused Done (writeRefusal n p (length b))
 
-unfoldable pub writtenOctets : Nameplate → Parameters → List ℕ → List ℕ
-writtenOctets n p b = cond (eqb (writeRefusal n p (length b)) 0) (octetsOf (n .ident) p b) b
+abbrev pub writtenOctets : Nameplate → Parameters → List ℕ → List ℕ
+writtenOctets n p b = answer (λ _. b) (octetsOf (n .ident) p b) (writeRefusal n p (length b))

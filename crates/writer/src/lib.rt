@@ -6,6 +6,8 @@ use encoder::nameplate::Nameplate;
 use encoder::parameters::Parameters;
 use encoder::quantity::Units;
 use encoder::refusal;
+use encoder::refusal::first;
+use encoder::refusal::when;
 use octets::put_number;
 
 pub enum Written {
@@ -30,13 +32,11 @@ pub fn write_parameters(plate: Nameplate, parameters: Parameters, buffer: &mut [
 fn refusal_of(plate: Nameplate, parameters: Parameters, size: usize) -> u8
     ensures { λ r. ⌜ r ≡ writeRefusal plate parameters size ⌝ }
 {
-    if !plate.fits() {
-        return refusal::PLATE;
-    }
-    if size != len(parameters) {
-        return refusal::BUFFER;
-    }
-    parameters.refusal(plate)
+    let size_wrong = when(size != len(parameters), refusal::BUFFER);
+    first(
+        plate.refusal(),
+        first(size_wrong, parameters.refusal(plate)),
+    )
 }
 
 // How many octets the parameters take.

@@ -1,11 +1,13 @@
 -- By the laws of BatchLaws, one for each way out.
 -- Assumes nothing.
+use Rattle.batch.specs.Batch.{batch, batchRefusal, batchList}
 use borrow.Author.Needs.{needs}
 use Rattle.batch.proofs.BatchLaws.{batches}
 use Rattle.batch.proofs.batch.Statement.{statement}
 use Rattle.batch.proofs.batch.Tie as tie
 
 pub batch-spec : {M : Type 1} → statement M
+unfolding batch batchRefusal batchList
 batch-spec =
     tie.close
     (tie.spec

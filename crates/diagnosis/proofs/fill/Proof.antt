@@ -1,17 +1,16 @@
--- By the laws of DiagnosisLaws, one for each way out.
+-- All parts, or the first alone.
 -- Assumes nothing.
 use borrow.Author.Needs.{needs}
-use Rattle.diagnosis.proofs.DiagnosisLaws.{diagnoses}
+use Rattle.diagnosis.specs.Diagnosis.{report}
 use Rattle.diagnosis.proofs.fill.Statement.{statement}
 use Rattle.diagnosis.proofs.fill.Tie as tie
 
 pub fill-spec : {M : Type 1} → statement M
+unfolding report
 fill-spec =
     tie.close
     (tie.spec
-    (λ c κs. search (needs, diagnoses))
-    (λ c κs. search (needs, diagnoses))
+    (λ c κs. let p = c .before .before .before .pre in (p .0, c .before .if1 .taken, rw (c .before .if1 .taken) at (p .1)))
+    (λ c κs. let p = c .before .before .before .pre in (p .0, rw (c .before .if1 .left) at (p .1))) (λ c. search needs) (λ c. search needs)
     (λ c. search needs)
-    (λ c. search needs)
-    (λ c. search needs)
-    (λ c. search (needs, diagnoses)))
+    (λ c. let off = c .before .before .before .before in rw (← off .before .before .pre .0 .is, off .if1 .left) (c .before .before .fill-general .ensures)))

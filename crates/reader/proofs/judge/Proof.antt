@@ -1,14 +1,9 @@
--- By the laws of ReadLaws, one for each way out.
+-- By the number.
 -- Assumes nothing.
-use borrow.Author.Needs.{needs}
-use Rattle.reader.proofs.ReadLaws.{judging}
+use mathlib.Core.Path.{sym}
+use Rattle.encoder.proofs.RefusalLaws.{refused-is}
 use Rattle.reader.proofs.judge.Statement.{statement}
 use Rattle.reader.proofs.judge.Tie as tie
 
 pub judge-spec : {M : Type 1} → statement M
-judge-spec =
-    tie.close
-    (tie.spec
-    (λ c κs. search needs)
-    (λ c. search (needs, judging))
-    (λ c. search (needs, judging)))
+judge-spec = tie.close (tie.spec (λ c. sym (refused-is _ _ _ (c .if1 .taken))) (λ c. rw (c .if1 .left)))

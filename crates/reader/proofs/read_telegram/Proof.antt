@@ -1,31 +1,17 @@
--- By the laws of ReadLaws, one for each way out.
+-- Refusal by refusal, and the parameters judged.
 -- Assumes nothing.
 use borrow.Author.Needs.{needs}
-use Rattle.reader.proofs.ReadLaws.{telegram}
+use Rattle.reader.specs.Read.{telegramRefusal, readTelegram}
+use Rattle.reader.proofs.ReadLaws.{reads}
 use Rattle.reader.proofs.read_telegram.Statement.{statement}
 use Rattle.reader.proofs.read_telegram.Tie as tie
 
 pub read-telegram-spec : {M : Type 1} → statement M
+unfolding readTelegram telegramRefusal
 read-telegram-spec =
     tie.close
     (tie.spec
-    (λ c κs. search needs)
-    (λ c. search (needs, telegram))
-    (λ c. search (needs, telegram))
-    (λ c. search needs)
-    (λ c. search needs)
-    (λ c. search needs)
-    (λ c κs. search needs)
-    (λ c. search needs)
-    (λ c. search (needs, telegram))
-    (λ c. search needs)
-    (λ c. search needs)
-    (λ c. search needs)
-    (λ c κs. search needs)
-    (λ c. search needs)
-    (λ c. search needs)
-    (λ c. search needs)
-    (λ c κs. search needs)
-    (λ c. search needs)
-    (λ c κs. search (needs, telegram))
-    (λ c. search (needs, telegram)))
+    (λ c κs. search needs) (λ c. search (needs, reads)) (λ c. search (needs, reads)) (λ c. search needs) (λ c. search needs) (λ c. search needs)
+    (λ c κs. search needs) (λ c. search needs) (λ c. search needs) (λ c. search needs) (λ c κs. search needs) (λ c. search needs) (λ c. search needs)
+    (λ c. search needs) (λ c κs. search needs) (λ c. search needs) (λ c. search needs) (λ c κs. search needs) (λ c κs. search needs)
+    (λ c κs. search needs) (λ c κs. search needs) (λ c. search (needs, reads)))

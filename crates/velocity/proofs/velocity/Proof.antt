@@ -1,11 +1,14 @@
 -- By the laws of SpeedLaws, one for each way out.
 -- Assumes nothing.
+use Rattle.velocity.specs.Velocity.{velocityAt, velocityRefusal}
 use borrow.Author.Needs.{needs}
+use Rattle.velocity.specs.Velocity.{velocityAt, velocityRefusal}
 use Rattle.velocity.proofs.SpeedLaws.{speeds}
 use Rattle.velocity.proofs.velocity.Statement.{statement}
 use Rattle.velocity.proofs.velocity.Tie as tie
 
 pub velocity-spec : {M : Type 1} → statement M
+unfolding velocityAt velocityRefusal
 velocity-spec =
     tie.close
     (tie.spec

@@ -1,19 +1,16 @@
--- By the laws of WriteLaws, one for each way out.
+-- Either class.
 -- Assumes nothing.
 use borrow.Author.Needs.{needs}
-use Rattle.writer.proofs.WriteLaws.{classes}
+use Rattle.writer.specs.Write.{octetsOf}
 use Rattle.writer.proofs.fill.Statement.{statement}
 use Rattle.writer.proofs.fill.Tie as tie
 
 pub fill-spec : {M : Type 1} → statement M
+unfolding octetsOf
 fill-spec =
     tie.close
     (tie.spec
-    (λ c. search needs)
-    (λ c κs. search (needs, classes))
-    (λ c. search needs)
-    (λ c κs. search (needs, classes))
-    (λ c. search needs)
-    (λ c. search (needs, classes))
-    (λ c. search needs)
-    (λ c. search (needs, classes)))
+    (λ c. search needs) (λ c κs. let two = c .before .before in rw (two .parameters .given .1) at (two .before .before .before .pre))
+    (λ c. search needs) (λ c κs. let four = c .before .before in rw (four .parameters2 .given .1) at (four .before .before .before .pre))
+    (λ c. search needs) (λ c. let done = c .before .before in rw (done .before .before .before .parameters .given .1) (done .fill-telegram .ensures))
+    (λ c. search needs) (λ c. let done = c .before .before in rw (done .before .before .before .parameters2 .given .1) (done .fill-block .ensures)))

@@ -1,7 +1,7 @@
--- By the laws of WriteLaws, one for each way out.
+-- By the calls, in the order of the definition.
 -- Assumes nothing.
 use borrow.Author.Needs.{needs}
-use Rattle.writer.proofs.WriteLaws.{refusing}
+use Rattle.writer.proofs.WriteLaws.{write-number}
 use Rattle.writer.proofs.refusal_of.Statement.{statement}
 use Rattle.writer.proofs.refusal_of.Tie as tie
 
@@ -9,9 +9,5 @@ pub refusal-of-spec : {M : Type 1} → statement M
 refusal-of-spec =
     tie.close
     (tie.spec
-    (λ c κs. search needs)
-    (λ c. search (needs, refusing))
-    (λ c κs. search needs)
-    (λ c. search (needs, refusing))
-    (λ c κs. search needs)
-    (λ c. search (needs, refusing)))
+    (λ c κs. search needs) (λ c κs. search needs) (λ c κs. search needs) (λ c κs. search needs) (λ c κs. search needs) (λ c κs. search needs)
+    (λ c. let calls = c .before .before in rw (c .first2 .ensures, c .before .first .ensures, calls .refusal2 .ensures, calls .before .refusal .ensures, calls .before .before .when .ensures, calls .before .before .before .len .ensures) (write-number _ _ _)))

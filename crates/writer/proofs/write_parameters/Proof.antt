@@ -1,7 +1,8 @@
--- By the laws of WriteLaws, one for each way out.
+-- By the number of the refusal.
 -- Assumes nothing.
 use borrow.Author.Needs.{needs}
-use Rattle.writer.proofs.WriteLaws.{writing}
+use Rattle.encoder.proofs.RefusalLaws.{exits}
+use Rattle.writer.proofs.WriteLaws.{right-length}
 use Rattle.writer.proofs.write_parameters.Statement.{statement}
 use Rattle.writer.proofs.write_parameters.Tie as tie
 
@@ -9,8 +10,4 @@ pub write-parameters-spec : {M : Type 1} → statement M
 write-parameters-spec =
     tie.close
     (tie.spec
-    (λ c κs. search needs)
-    (λ c. search (needs, writing))
-    (λ c κs. search (needs, writing))
-    (λ c. search needs)
-    (λ c. search (needs, writing)))
+    (λ c κs. search needs) (λ c. search (needs, exits)) (λ c κs. search (needs, right-length)) (λ c. search needs) (λ c. search (needs, exits)))

@@ -1,13 +1,10 @@
--- By the laws of PartLaws, one for each way out.
+-- A mask of class 4, and class 2 as it is.
 -- Assumes nothing.
-use borrow.Author.Needs.{needs}
-use Rattle.diagnosis.proofs.PartLaws.{parts}
+use Rattle.diagnosis.specs.Diagnosis.{shown}
+use Rattle.diagnosis.proofs.PartLaws.{masked}
 use Rattle.diagnosis.proofs.part.shown.Statement.{statement}
 use Rattle.diagnosis.proofs.part.shown.Tie as tie
 
 pub shown-spec : {M : Type 1} → statement M
-shown-spec =
-    tie.close
-    (tie.spec
-    (λ c. search (needs, parts))
-    (λ c. search (needs, parts)))
+unfolding shown
+shown-spec = tie.close (tie.spec (λ c. rw (c .before .if1 .taken) (masked (c .before .before .args .fields .operating))) (λ c. rw (c .if1 .left)))

@@ -1,7 +1,6 @@
--- By the laws of OperatingLaws, one for each way out.
+-- By the bits of either class.
 -- Assumes nothing.
 use borrow.Author.Needs.{needs}
-use Rattle.encoder.proofs.OperatingLaws.{operating}
 use Rattle.encoder.proofs.operating.reserved.Statement.{statement}
 use Rattle.encoder.proofs.operating.reserved.Tie as tie
 
@@ -9,10 +8,6 @@ pub reserved-spec : {M : Type 1} → statement M
 reserved-spec =
     tie.close
     (tie.spec
-    (λ c κs. search needs)
-    (λ c κs. search needs)
-    (λ c κs. search needs)
-    (λ c κs. search needs)
-    (λ c κs. search needs)
-    (λ c. search (needs, operating))
-    (λ c. search (needs, operating)))
+    (λ c κs. search needs) (λ c κs. search needs) (λ c κs. search needs) (λ c κs. search needs) (λ c κs. search needs)
+    (λ c. let high = c .before .before in rw (c .before .if1 .taken, c .bit3 .ensures, high .bit2 .ensures, high .before .bit .ensures))
+    (λ c. let high = c .before .before .before in rw (c .before .before .if1 .left, c .bit5 .ensures, c .before .bit4 .ensures, high .bit2 .ensures, high .before .bit .ensures)))

@@ -1,7 +1,6 @@
--- By the laws of OperatingLaws, one for each way out.
+-- By the bits.
 -- Assumes nothing.
 use borrow.Author.Needs.{needs}
-use Rattle.encoder.proofs.OperatingLaws.{operating}
 use Rattle.encoder.proofs.operating.scaling.Statement.{statement}
 use Rattle.encoder.proofs.operating.scaling.Tie as tie
 
@@ -9,6 +8,5 @@ pub scaling-spec : {M : Type 1} → statement M
 scaling-spec =
     tie.close
     (tie.spec
-    (λ c κs. search needs)
-    (λ c κs. search needs)
-    (λ c. search (needs, operating)))
+    (λ c κs. search needs) (λ c κs. search needs)
+    (λ c. rw (c .bit .ensures, c .before .class-on .ensures)))

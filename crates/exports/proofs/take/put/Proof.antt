@@ -1,7 +1,6 @@
--- By the laws of NumbersLaws, for each class.
+-- Either class.
 -- Assumes nothing.
 use borrow.Author.Needs.{needs}
-use Rattle.exports.proofs.NumbersLaws.{classes}
 use Rattle.exports.proofs.take.put.Statement.{statement}
 use Rattle.exports.proofs.take.put.Tie as tie
 
@@ -9,15 +8,9 @@ pub put-spec : {M : Type 1} → statement M
 put-spec =
     tie.close
     (tie.spec
-    (λ c. search needs)
-    (λ c. search needs)
-    (λ c κs. search (needs, classes))
-    (λ c. search needs)
-    (λ c. search needs)
-    (λ c. search needs)
-    (λ c. search needs)
-    (λ c κs. search (needs, classes))
-    (λ c. search needs)
-    (λ c. search (needs, classes))
-    (λ c. search needs)
-    (λ c. search (needs, classes)))
+    (λ c. search needs) (λ c. search needs)
+    (λ c κs. let two = c .before .before in rw (two .parameters .given .1) at (two .before .before .before .pre)) (λ c. search needs)
+    (λ c. search needs) (λ c. search needs) (λ c. search needs)
+    (λ c κs. let four = c .before .before in rw (four .parameters2 .given .1) at (four .before .before .before .pre)) (λ c. search needs)
+    (λ c. let done = c .before .before in rw (done .before .before .before .parameters .given .1) (done .put-three .ensures)) (λ c. search needs)
+    (λ c. let done = c .before .before in rw (done .before .before .before .parameters2 .given .1) (done .put-five .ensures)))

@@ -1,7 +1,7 @@
 -- By the laws of SensorLaws, one for each way out.
 -- Assumes nothing.
 use borrow.Author.Needs.{needs}
-use Rattle.travel.proofs.SensorLaws.{sensors}
+use Rattle.travel.proofs.SensorLaws.{orients}
 use Rattle.travel.proofs.raw.apart.Statement.{statement}
 use Rattle.travel.proofs.raw.apart.Tie as tie
 
@@ -9,7 +9,7 @@ pub apart-spec : {M : Type 1} → statement M
 apart-spec =
     tie.close
     (tie.spec
-    (λ c. search (needs, sensors))
+    (λ c. search (needs, orients))
     (λ c. search needs)
     (λ c. search needs)
-    (λ c. search (needs, sensors)))
+    (λ c. search (needs, orients)))

@@ -1,7 +1,7 @@
 -- By the laws of SensorLaws, one for each way out.
 -- Assumes nothing.
 use borrow.Author.Needs.{needs}
-use Rattle.travel.proofs.SensorLaws.{sensors}
+use Rattle.travel.proofs.SensorLaws.{orients}
 use Rattle.travel.proofs.raw.difference.Statement.{statement}
 use Rattle.travel.proofs.raw.difference.Tie as tie
 
@@ -10,6 +10,6 @@ difference-spec =
     tie.close
     (tie.spec
     (λ c κs. search needs)
-    (λ c. search (needs, sensors))
+    (λ c. search (needs, orients))
     (λ c κs. search needs)
-    (λ c. search (needs, sensors)))
+    (λ c. search (needs, orients)))

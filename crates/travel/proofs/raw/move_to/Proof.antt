@@ -1,7 +1,7 @@
 -- By the laws of SensorLaws, one for each way out.
 -- Assumes nothing.
 use borrow.Author.Needs.{needs}
-use Rattle.travel.proofs.SensorLaws.{sensors}
+use Rattle.travel.proofs.SensorLaws.{ways}
 use Rattle.travel.proofs.raw.move_to.Statement.{statement}
 use Rattle.travel.proofs.raw.move_to.Tie as tie
 
@@ -11,4 +11,4 @@ move-to-spec =
     (tie.spec
     (λ c κs. search needs)
     (λ c κs. search needs)
-    (λ c. search (needs, sensors)))
+    (λ c. search (needs, ways)))

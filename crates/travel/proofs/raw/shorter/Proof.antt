@@ -1,7 +1,7 @@
 -- By the laws of SensorLaws, one for each way out.
 -- Assumes nothing.
 use borrow.Author.Needs.{needs}
-use Rattle.travel.proofs.SensorLaws.{sensors}
+use Rattle.travel.proofs.SensorLaws.{ways}
 use Rattle.travel.proofs.raw.shorter.Statement.{statement}
 use Rattle.travel.proofs.raw.shorter.Tie as tie
 
@@ -11,8 +11,8 @@ shorter-spec =
     (tie.spec
     (λ c. search needs)
     (λ c. search needs)
-    (λ c. search (needs, sensors))
+    (λ c. search (needs, ways))
     (λ c. search needs)
     (λ c. search needs)
-    (λ c. search (needs, sensors))
-    (λ c. search (needs, sensors)))
+    (λ c. search (needs, ways))
+    (λ c. search (needs, ways)))
