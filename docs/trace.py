@@ -3,7 +3,7 @@
 
 Of the second and third column: that each backticked path exists; that each backticked name is defined in the file named next behind it in the
 same cell; that each must-fail edit (crate/label) exists; that each text quoted after "vectors" is a remark of crates/vectors/stdin, each after
-"starred" a remark of crates/starred/specs/Starred.antt, and any other quoted text stands in the file named next. With PAPER: that the first
+"starred" a remark of crates/starred_values/specs/Starred.antt, and any other quoted text stands in the file named next. With PAPER: that the first
 column is taken from it, piece by piece (" .. " marks what is left out).
 """
 import os
@@ -58,7 +58,7 @@ def cell(root, text, wrong, place):
                 if not any(l.startswith("#") and quote in l for l in open(os.path.join(root, "crates/vectors/stdin"), encoding="utf-8")):
                     wrong.append(f"{place}: no vectors under {quote!r}")
             elif kind == "starred":
-                if quote not in open(os.path.join(root, "crates/starred/specs/Starred.antt"), encoding="utf-8").read():
+                if quote not in open(os.path.join(root, "crates/starred_values/specs/Starred.antt"), encoding="utf-8").read():
                     wrong.append(f"{place}: no starred {quote!r}")
             elif quote not in ("-",):
                 quotes.append(quote)

@@ -6,20 +6,20 @@ use mathlib.Core.List.{List, [], _∷_}
 use Prim.Native.Nat.{ℕ, _<_}
 use lib.Dec.{leb}
 use lib.IntN.{ℤ}
-use Rattle.encoder.specs.Nameplate.{capacityOf}
+use Rattle.encoder.specs.Plate.{capacityOf}
 use Rattle.encoder.specs.Refusal.{wrongTurn, when}
-use Rattle.encoder.specs.Parameters.{refusalOn}
+use Rattle.encoder.specs.Rows.{refusalOn}
 use Rattle.encoder.proofs.RefusalLaws.{before-none}
-use Rattle.sensor.specs.Reading.{stepRefusal}
+use Rattle.sensor.specs.Raw.{stepRefusal}
 use Rattle.sensor.proofs.ReadingLaws.{reading-lt}
-use Rattle.travel.specs.Travel.{started}
+use Rattle.axis_shaft.specs.Rules.{started}
 use Rattle.axis.specs.declared.Axis.{Axis}
-use Rattle.axis.specs.Axis.{rulesOn}
+use Rattle.axis.specs.Limits.{rulesOn}
 use Rattle.axis.specs.Reading.{fresh, startRefusal, start, startRawRefusal, startRaw}
 use Rattle.axis.proofs.AxisLaws.{Limits}
 use Rattle.axis.proofs.PositionLaws.{reported-is}
 use Rattle.axis.proofs.LimitsKept.{begun-kept, number-lt}
-use Rattle.link.specs.Link.{quiet}
+use Rattle.cyclic_link.specs.Quiet.{quiet}
 use Rattle.accuracy.specs.Calls.{First, firstReading, firstNumber}
 use Rattle.accuracy.specs.Ledger.{Device, force, startBy, firstRaw}
 use Rattle.accuracy.specs.Claim.{Event, Accurate, Claim}
@@ -67,4 +67,4 @@ unfolding started rulesOn
 accuracy d first none es =
     let h = begun d first none in
     let lim = begun-kept (d .plate) (d .parameters) (firstRaw d first) (h .0) (h .1) in
-    rw (h .2) (accurate es (record { axis = at d first; link = quiet }) 0 _ lim (kept-start (force d) (lim .travel .sound) (firstRaw d first)))
+    rw (h .2) (accurate es (record { axis = at d first; link = quiet }) 0 _ lim (kept-start (force d) (lim .shaft .sound) (firstRaw d first)))

@@ -10,28 +10,28 @@ use lib.Dec.{eqb}
 use lib.IntN.{ℤ, _+ℤ_}
 use borrow.Author.Tests.{ne-eqb}
 use Rattle.encoder.specs.Refusal.{answer}
-use Rattle.travel.specs.Travel.{moveRefusal, movedTo}
-use Rattle.axis.specs.Axis.{rulesOn, positionOf}
+use Rattle.axis_shaft.specs.Rules.{moveRefusal, movedTo}
+use Rattle.axis.specs.Limits.{rulesOn, positionOf}
 use Rattle.axis.specs.Reading.{atRaw}
 use Rattle.axis.specs.Preset.{presetted}
 use Rattle.axis.proofs.AxisLaws.{Limits}
 use Rattle.axis.proofs.ReadingLaws.{singly}
 use Rattle.axis.proofs.PositionLaws.{reported-is}
 use Rattle.axis.proofs.LimitsKept.{raw-kept}
-use Rattle.link.specs.declared.Preset.{Preset as Reacted}
-use Rattle.link.specs.Class2.{asked as asked2, made as made2}
-use Rattle.link.specs.Class4.{asked as asked4, held, made as made4}
-use Rattle.link.specs.Reaction.{reaction}
+use Rattle.cyclic_link.specs.declared.Preset.{Preset as Reacted}
+use Rattle.cyclic_link.specs.Class2.{asked as asked2, made as made2}
+use Rattle.cyclic_link.specs.Class4.{asked as asked4, held, made as made4}
+use Rattle.cyclic_link.specs.Classes.{reaction}
 use Rattle.cyclic.specs.Raw.{faultyAt, takenAt}
 use Rattle.cyclic.specs.Class2.{wordOf}
 use Rattle.cyclic.specs.Class4.{counted}
-use Rattle.cyclic.specs.Cycle.{four, wordBy, linkAfter}
+use Rattle.cyclic.specs.Cycle.{class4, wordBy, linkAfter}
 use Rattle.cyclic.proofs.CycleKept.{after-is}
 use Rattle.accuracy.specs.Calls.{cycling}
-use Rattle.accuracy.specs.Ledger.{none, made, Deed, rises, preset2, preset4, cyclePreset, moved, put}
-use Rattle.accuracy.specs.Claim.{Supposed, Puts, readSingly}
+use Rattle.accuracy.specs.Ledger.{none, made, Deed, rises, preset2, preset4, cyclePreset, withReadings, put}
+use Rattle.accuracy.specs.Claim.{Supposed, Rule6, readSingly}
 use Rattle.accuracy.specs.Run.{State}
-use Rattle.accuracy.proofs.Standing.{deviceOf, ledgerOf, Keeps, Stands, onward, stands-moved, Done}
+use Rattle.accuracy.proofs.Standing.{deviceOf, ledgerOf, Keeps, Matches, onward, stands-moved, Done}
 use Rattle.accuracy.proofs.Presets.{puts-by, stands-preset}
 use Rattle.accuracy.proofs.Settled.{goes}
 
@@ -55,8 +55,8 @@ module _ (s : State) (output : List ℕ) where
 
 -- ---- the preset of a cycle, by whether it is made
 preset-by : (s : State) (p : ℕ) (g : ℤ) → Limits (s .axis) → Keeps s p g → (v : ℤ) (relative t : Bool) → let b = cond t (presetted (s .axis) v relative) (s .axis) in
-    Stands (deviceOf (s .axis)) (onward s b) (put (cond t (made v relative) none) (ledgerOf s p g) (positionOf b))
-    × Puts (deviceOf (s .axis)) (cond t (made v relative) none) (positionOf (s .axis)) (positionOf b)
+    Matches (deviceOf (s .axis)) (onward s b) (put (cond t (made v relative) none) (ledgerOf s p g) (positionOf b))
+    × Rule6 (deviceOf (s .axis)) (cond t (made v relative) none) (positionOf (s .axis)) (positionOf b)
 preset-by s p g lim k v relative true = (stands-preset s p g lim v relative, puts-by s p g lim v relative)
 preset-by s p g lim k v relative false = (record { device = refl; ledger = refl; kept = k }, tt)
 
@@ -71,12 +71,12 @@ module _ (s : State) (p : ℕ) (g : ℤ) (lim : Limits (s .axis)) (k : Keeps s p
         link = linkAfter (rulesOn (s .axis)) (s .axis .parameters) (s .link) (not (eqb n 0)) output;
       }
 
-  pub cycle-by : (n : ℕ) → moveRefusal (rulesOn (s .axis)) (s .axis .travel .last .0) raw ≡ n
-      → Supposed (deviceOf (s .axis)) (s .axis .travel .last .0) (deedBy n .numbers) m → Done s (ledgerOf s p g) m (deedBy n) (goes s (cycling raw output input))
-  unfolding Supposed moved readSingly faultyAt takenAt atRaw movedTo rulesOn
+  pub cycle-by : (n : ℕ) → moveRefusal (rulesOn (s .axis)) (s .axis .shaft .last .0) raw ≡ n
+      → Supposed (deviceOf (s .axis)) (s .axis .shaft .last .0) (deedBy n .numbers) m → Done s (ledgerOf s p g) m (deedBy n) (goes s (cycling raw output input))
+  unfolding Supposed withReadings readSingly faultyAt takenAt atRaw movedTo rulesOn
   cycle-by zero e h =
       let a = s .axis in
-      let class = four (a .parameters) in
+      let class = class4 (a .parameters) in
       let t = singly a lim raw 0 e in
       let b-limits : Limits (atRaw a raw) = rw t at (raw-kept a lim raw) in
       let j = linkAfter (rulesOn a) (a .parameters) (s .link) false output in
@@ -88,5 +88,5 @@ module _ (s : State) (p : ℕ) (g : ℤ) (lim : Limits (s .axis)) (k : Keeps s p
   cycle-by (suc n) e h =
       let a = s .axis in
       let t = singly a lim raw (suc n) e in
-      rw (after-is a (s .link) raw output, takenAt, faultyAt, t, ne-eqb (suc n) 0 (λ z. omega arith), passed s output (four (a .parameters)))
+      rw (after-is a (s .link) raw output, takenAt, faultyAt, t, ne-eqb (suc n) 0 (λ z. omega arith), passed s output (class4 (a .parameters)))
       (record { stands = record { device = refl; ledger = refl; kept = k }; puts = tt })

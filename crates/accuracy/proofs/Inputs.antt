@@ -9,21 +9,21 @@ use lib.IntN.{ℤ}
 use Rattle.integer.specs.Octets.{part, bigEndian, octets}
 use Rattle.integer.proofs.Modulus.{modulo-lt}
 use Rattle.integer.proofs.Octets.{bigEndian-octets}
-use Rattle.travel.specs.Travel.{positionAt}
+use Rattle.axis_shaft.specs.Rules.{positionAt}
 use Rattle.axis.specs.declared.Axis.{Axis}
-use Rattle.axis.specs.Axis.{rulesOn, positionOf}
+use Rattle.axis.specs.Limits.{rulesOn, positionOf}
 use Rattle.axis.proofs.AxisLaws.{Limits}
-use Rattle.link.specs.Class4.{zsw}
+use Rattle.cyclic_link.specs.Class4.{zsw}
 use Rattle.cyclic.specs.Class2.{input as input2}
 use Rattle.cyclic.specs.Class4.{counted, zsw2, xist1, xist2, input as input4}
-use Rattle.cyclic.specs.Cycle.{four, inputOf}
+use Rattle.cyclic.specs.Cycle.{class4, inputOf}
 use Rattle.accuracy.specs.Claim.{Shown}
 use Rattle.accuracy.specs.Run.{State}
 use Rattle.accuracy.proofs.Standing.{deviceOf, ledgerOf, Keeps, stands-agrees}
 
 position-lt : (a : Axis) → Limits a → positionOf a < 256 ^ 4
 unfolding positionOf positionAt
-position-lt a lim = let h : positionOf a < rulesOn a .span .0 = modulo-lt _ (lim .travel .sound .span-least) in omega (arith, lim .travel .sound .span-most)
+position-lt a lim = let h : positionOf a < rulesOn a .span .0 = modulo-lt _ (lim .shaft .sound .span-least) in omega (arith, lim .shaft .sound .span-most)
 
 -- ---- the octets: four alone, and four among others
 four-back : (x : ℕ) → x < 256 ^ 4 → bigEndian (part 1 4 (octets 4 x)) ≡ x
@@ -45,7 +45,7 @@ shown s p g lim k output =
     let a = s .axis in
     let t = stands-agrees s p g lim k in
     let lt = position-lt a lim in
-    let second : four (a .parameters) ≡ true → s .link .error ≡ false → bigEndian (part 9 12 (inputOf (s .link) a output)) ≡ positionOf a
+    let second : class4 (a .parameters) ≡ true → s .link .error ≡ false → bigEndian (part 9 12 (inputOf (s .link) a output)) ≡ positionOf a
     = λ class well. rw (class, well) (fourth-back zsw2 (zsw _ (counted output)) (xist1 a) (positionOf a) lt) in
     record {
       class2 = λ class. rw (class, four-back (positionOf a) lt) t;

@@ -5,9 +5,9 @@ use mathlib.Core.Path.{_≡_, _∙_}
 use Prim.Native.Nat.{ℕ, _*_, _%_, _<_}
 use lib.IntN.{ℤ, pos, _+ℤ_, _-ℤ_}
 use Rattle.encoder.specs.declared.effect.InForce.{InForce}
-use Rattle.encoder.specs.InForce.{Sound}
-use Rattle.travel.specs.declared.Travel.{Travel}
-use Rattle.travel.specs.Travel.{ring, oriented, started, moveOf, movedTo, unshifted, positionAt}
+use Rattle.encoder.specs.Force.{Sound}
+use Rattle.axis_shaft.specs.declared.Shaft.{Shaft}
+use Rattle.axis_shaft.specs.Rules.{period, oriented, started, moveOf, movedTo, unshifted, positionAt}
 use Rattle.phase.specs.Phase.{origin}
 use Rattle.phase.proofs.Place.{place-units, place-start, place-move}
 use Rattle.phase.proofs.Kept as K
@@ -15,10 +15,10 @@ use Rattle.accuracy.specs.Ledger.{Device, force, Ledger}
 use Rattle.accuracy.specs.Claim.{Agrees}
 
 -- the phase of the record
-abbrev pub phaseOf : InForce → Travel → ℕ
-phaseOf f t = t .place .0 * f .scale .0 % ring f
+abbrev pub phaseOf : InForce → Shaft → ℕ
+phaseOf f t = t .place .0 * f .scale .0 % period f
 
-abbrev pub Kept : InForce → ℕ → ℤ → Travel → ℤ → Type 0
+abbrev pub Kept : InForce → ℕ → ℤ → Shaft → ℤ → Type 0
 Kept f base travel t offset = origin (f .steps .0) (f .scale .0) (f .span .0) (phaseOf f t) offset travel ≡ base
 
 module _ (f : InForce) (s : Sound f) where
@@ -28,7 +28,7 @@ module _ (f : InForce) (s : Sound f) where
       rw (place-start (f .steps .0) (f .scale .0) (f .span .0) (s .steps-least) (s .span-least) (oriented f raw))
       (K.kept-start (f .steps .0) (f .scale .0) (f .span .0) (s .steps-least) (s .span-least) (oriented f raw))
 
-  pub kept-move : (base : ℕ) (travel : ℤ) (t : Travel) (offset : ℤ) (raw : ℕ) → Kept f base travel t offset
+  pub kept-move : (base : ℕ) (travel : ℤ) (t : Shaft) (offset : ℤ) (raw : ℕ) → Kept f base travel t offset
       → Kept f base (travel +ℤ moveOf f (t .last .0) raw) (movedTo f t raw) offset
   unfolding movedTo
   kept-move base travel t offset raw k =
@@ -36,14 +36,14 @@ module _ (f : InForce) (s : Sound f) where
       rw (place-move (f .steps .0) (f .scale .0) (f .span .0) (s .steps-least) (s .span-least) (t .place .0) d)
       (K.kept-move (f .steps .0) (f .scale .0) (f .span .0) (s .steps-least) (s .span-least) (phaseOf f t) offset travel d ∙ k)
 
-  pub kept-preset : (t : Travel) (to : ℕ) → to < f .span .0 → Kept f to (pos 0) t (pos to -ℤ pos (unshifted f t))
+  pub kept-preset : (t : Shaft) (to : ℕ) → to < f .span .0 → Kept f to (pos 0) t (pos to -ℤ pos (unshifted f t))
   unfolding unshifted
   kept-preset t to lt =
       rw (← place-units (f .steps .0) (f .scale .0) (f .span .0) (s .steps-least) (s .span-least) (t .place .0))
       (K.kept-preset (f .steps .0) (f .scale .0) (f .span .0) (s .steps-least) (s .span-least) (phaseOf f t) to lt)
 
 -- ---- the position agrees
-pub agrees : (d : Device) → Sound (force d) → (l : Ledger) (t : Travel) (offset : ℤ) → Kept (force d) (l .base) (l .travel) t offset
+pub agrees : (d : Device) → Sound (force d) → (l : Ledger) (t : Shaft) (offset : ℤ) → Kept (force d) (l .base) (l .travel) t offset
     → Agrees d l (positionAt (force d) offset t)
 unfolding positionAt unshifted
 agrees d s l t offset k =

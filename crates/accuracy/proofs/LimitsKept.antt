@@ -2,10 +2,10 @@
 -- Assumes nothing.
 use mathlib.Core.Path.{_≡_}
 use mathlib.Core.Bool.{true}
-use Rattle.axis.specs.Axis.{acceptable}
+use Rattle.axis.specs.Limits.{acceptable}
 use Rattle.axis.proofs.AxisLaws.{Limits, limits-of, accepts}
 use Rattle.axis.proofs.LimitsKept.{raw-kept, read-kept, preset-kept, store-kept}
-use Rattle.batch.proofs.BatchKept.{batch-kept}
+use Rattle.axis_batch.proofs.BatchKept.{batch-kept}
 use Rattle.cyclic.proofs.CycleKept.{cycle-kept}
 use Rattle.accuracy.specs.Calls.{Call, reading, rawReading, batching, presetting, storing, cycling}
 use Rattle.accuracy.specs.Run.{State, yields}

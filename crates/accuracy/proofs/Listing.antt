@@ -4,14 +4,14 @@ use mathlib.Core.Path.{_≡_, refl}
 use mathlib.Core.List.{[], _∷_}
 use Prim.Native.Nat.{ℕ}
 use lib.IntN.{ℤ}
-use Rattle.encoder.specs.Nameplate.{plateRefusal}
-use Rattle.encoder.specs.Parameters.{fieldsRefusal, refusalOn}
-use Rattle.sensor.specs.Reading.{stepRefusal}
-use Rattle.travel.specs.declared.Reported.{Reported}
+use Rattle.encoder.specs.Plate.{plateRefusal}
+use Rattle.encoder.specs.Rows.{fieldsRefusal, refusalOn}
+use Rattle.sensor.specs.Raw.{stepRefusal}
+use Rattle.axis_shaft.specs.declared.Reported.{Reported}
 use Rattle.axis.specs.Reading.{startRefusal}
 use Rattle.accuracy.specs.Calls.{First, firstReading, Call}
 use Rattle.accuracy.specs.Ledger.{Ledger, startBy, opened, deed, noted}
-use Rattle.accuracy.specs.Claim.{Program, Event, Supposed, number, Reports, Lent, Puts, readSingly, Accurate, Claim}
+use Rattle.accuracy.specs.Claim.{Program, Event, Supposed, number, Reports, Lent, Rule6, readSingly, Accurate, Claim}
 use Rattle.accuracy.specs.Worked.{listing}
 
 abbrev pub first : Ledger
@@ -47,7 +47,7 @@ module _ (p : Program) (claim : Claim p) (c : Call) (m : ℤ) (h : Supposed list
   unfolding Accurate
   after = claim listing there started-there (event c m ∷ []) .1 h .2
 
-  pub puts : Puts listing (deed listing first c .preset) (number (p .position (readSingly p (begun p) (deed listing first c .numbers)))) (number (then p c))
+  pub puts : Rule6 listing (deed listing first c .preset) (number (p .position (readSingly p (begun p) (deed listing first c .numbers)))) (number (then p c))
   unfolding Accurate
   puts = claim listing there started-there (event c m ∷ []) .1 h .0
 

@@ -5,26 +5,26 @@ use mathlib.Core.Path.{refl}
 use mathlib.Core.Bool.{Bool, true, false}
 use Prim.Native.Nat.{ℕ}
 use lib.IntN.{ℤ}
-use Rattle.axis.specs.Axis.{rulesOn, unshiftedOf, positionOf}
+use Rattle.axis.specs.Limits.{rulesOn, unshiftedOf, positionOf}
 use Rattle.axis.specs.Preset.{asked, presetted}
 use Rattle.axis.proofs.AxisLaws.{Limits}
 use Rattle.axis.proofs.LimitsKept.{asked-lt, put-is}
 use Rattle.accuracy.specs.Ledger.{made, put}
-use Rattle.accuracy.specs.Claim.{Puts}
+use Rattle.accuracy.specs.Claim.{Rule6}
 use Rattle.accuracy.specs.Run.{State}
 use Rattle.accuracy.proofs.Kept.{kept-preset}
-use Rattle.accuracy.proofs.Standing.{deviceOf, ledgerOf, Stands, onward}
+use Rattle.accuracy.proofs.Standing.{deviceOf, ledgerOf, Matches, onward}
 
 module _ (s : State) (p : ℕ) (g : ℤ) (lim : Limits (s .axis)) (v : ℤ) where
-  pub puts-by : (relative : Bool) → Puts (deviceOf (s .axis)) (made v relative) (positionOf (s .axis)) (positionOf (presetted (s .axis) v relative))
+  pub puts-by : (relative : Bool) → Rule6 (deviceOf (s .axis)) (made v relative) (positionOf (s .axis)) (positionOf (presetted (s .axis) v relative))
   unfolding asked rulesOn
   puts-by true = put-is (s .axis) lim v true
   puts-by false = put-is (s .axis) lim v false
 
   pub stands-preset : (relative : Bool) → let b = presetted (s .axis) v relative in
-      Stands (deviceOf (s .axis)) (onward s b) (put (made v relative) (ledgerOf s p g) (positionOf b))
+      Matches (deviceOf (s .axis)) (onward s b) (put (made v relative) (ledgerOf s p g) (positionOf b))
   unfolding presetted unshiftedOf rulesOn
   stands-preset relative =
       let a = s .axis in
-      let t = kept-preset (rulesOn a) (lim .travel .sound) (a .travel) (asked a v relative) (asked-lt a lim v relative) in
+      let t = kept-preset (rulesOn a) (lim .shaft .sound) (a .shaft) (asked a v relative) (asked-lt a lim v relative) in
       record { device = refl; ledger = refl; kept = rw (put-is a lim v relative) t }

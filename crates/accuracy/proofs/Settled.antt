@@ -6,16 +6,16 @@ use mathlib.Core.List.{List}
 use Prim.Native.Nat.{ℕ, zero, suc}
 use lib.IntN.{ℤ}
 use Rattle.encoder.specs.Refusal.{answer}
-use Rattle.sensor.specs.Reading.{rawOf}
-use Rattle.travel.specs.Travel.{travelRefusal}
-use Rattle.travel.proofs.TravelLaws.{read-refusal}
+use Rattle.sensor.specs.Raw.{rawOf}
+use Rattle.axis_shaft.specs.Rules.{shaftRefusal}
+use Rattle.axis_shaft.proofs.ShaftLaws.{read-refusal}
 use Rattle.axis.specs.declared.Axis.{Axis}
-use Rattle.axis.specs.Axis.{rulesOn}
+use Rattle.axis.specs.Limits.{rulesOn}
 use Rattle.axis.specs.Reading.{accepted, refused, next, atRaw, readRawRefusal, readRaw, readRefusal, read}
 use Rattle.axis.specs.Preset.{presetRefusal, presetted, preset, holding, store}
 use Rattle.axis.proofs.AxisLaws.{Limits, limits-none}
-use Rattle.batch.specs.Batch.{after, positionsOf, batchRefusal, batch, batchList}
-use Rattle.batch.proofs.BatchLaws.{first-is}
+use Rattle.axis_batch.specs.Batch.{after, positionsOf, batchRefusal, batch, batchList}
+use Rattle.axis_batch.proofs.BatchLaws.{first-is}
 use Rattle.cyclic.specs.Cycle.{cycleRefusal, linkLeft, axisAfter, inputOf, done, refused as kept, cycle, cycleInput}
 use Rattle.accuracy.specs.Calls.{Call, reading, rawReading, batching, presetting, storing, cycling}
 use Rattle.accuracy.specs.Ledger.{refusalBy}
@@ -40,9 +40,9 @@ module _ (s : State) (p : ℕ) (g : ℤ) (lim : Limits (s .axis)) where
   abbrev number : Call → ℕ
   number c = refusalBy (deviceOf (s .axis)) (ledgerOf s p g) c
 
-  travel-is : (raw : ℕ) → travelRefusal (rulesOn (s .axis)) (s .axis .travel) raw ≡ number (rawReading raw)
+  read-is : (raw : ℕ) → shaftRefusal (rulesOn (s .axis)) (s .axis .shaft) raw ≡ number (rawReading raw)
   unfolding rulesOn
-  travel-is raw = read-refusal (rulesOn (s .axis)) (s .axis .travel) (lim .travel) raw
+  read-is raw = read-refusal (rulesOn (s .axis)) (s .axis .shaft) (lim .shaft) raw
 
   batch-is : (raws positions : List ℕ) → batchRefusal (s .axis) raws positions ≡ number (batching raws positions)
   unfolding batchRefusal rulesOn
@@ -57,8 +57,8 @@ module _ (s : State) (p : ℕ) (g : ℤ) (lim : Limits (s .axis)) where
 
   pub settled : (c : Call) → yields s c ≡ answer (λ (i : ℕ). s) (goes s c) (number c)
   unfolding read readRefusal readRaw readRawRefusal batch preset store presetRefusal cycle rulesOn
-  settled (reading step turn) = rw (limits-none (s .axis) lim, travel-is (rawOf (s .axis .nameplate) step turn)) (by-next (number (reading step turn)) _)
-  settled (rawReading raw) = rw (limits-none (s .axis) lim, travel-is raw) (by-next (number (rawReading raw)) _)
+  settled (reading step turn) = rw (limits-none (s .axis) lim, read-is (rawOf (s .axis .nameplate) step turn)) (by-next (number (reading step turn)) _)
+  settled (rawReading raw) = rw (limits-none (s .axis) lim, read-is raw) (by-next (number (rawReading raw)) _)
   settled (batching raws positions) = rw (batch-is raws positions) (by-next (number (batching raws positions)) _)
   settled (presetting v relative) = rw (limits-none (s .axis) lim) (by-next (number (presetting v relative)) _)
   settled (storing v) = rw (limits-none (s .axis) lim) (by-next (number (storing v)) _)

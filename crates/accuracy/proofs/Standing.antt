@@ -6,17 +6,17 @@ use mathlib.Core.List.{List, [], _∷_}
 use Prim.Native.Nat.{ℕ, suc}
 use lib.IntN.{ℤ, _+ℤ_}
 use Rattle.encoder.proofs.RefusalLaws.{before-none}
-use Rattle.travel.specs.Travel.{moveRefusal, movedTo}
-use Rattle.travel.specs.Batch.{refusalIn}
+use Rattle.axis_shaft.specs.Rules.{moveRefusal, movedTo}
+use Rattle.axis_shaft.specs.Batch.{refusalIn}
 use Rattle.axis.specs.declared.Axis.{Axis}
-use Rattle.axis.specs.Axis.{rulesOn, positionOf, reported}
+use Rattle.axis.specs.Limits.{rulesOn, positionOf, reported}
 use Rattle.axis.specs.Reading.{atRaw}
 use Rattle.axis.proofs.AxisLaws.{Limits}
 use Rattle.axis.proofs.ReadingLaws.{singly}
 use Rattle.axis.proofs.LimitsKept.{raw-kept}
-use Rattle.batch.specs.Batch.{after, positionsOf}
-use Rattle.accuracy.specs.Ledger.{Device, force, Ledger, Deed, moved, noted}
-use Rattle.accuracy.specs.Claim.{Shows, Supposed, Agrees, Entries, number, Puts, readSingly}
+use Rattle.axis_batch.specs.Batch.{after, positionsOf}
+use Rattle.accuracy.specs.Ledger.{Device, force, Ledger, Deed, withReadings, noted}
+use Rattle.accuracy.specs.Claim.{Shows, Supposed, Agrees, Entries, number, Rule6, readSingly}
 use Rattle.accuracy.specs.Run.{State}
 use Rattle.accuracy.specs.Ours.{ours}
 use Rattle.accuracy.proofs.Kept.{Kept, agrees, kept-move}
@@ -27,13 +27,13 @@ abbrev pub deviceOf : Axis → Device
 deviceOf a = record { plate = a .nameplate; parameters = a .parameters }
 
 abbrev pub ledgerOf : State → ℕ → ℤ → Ledger
-ledgerOf s p g = record { base = p; travel = g; last = s .axis .travel .last .0; stored = s .axis .stored; link = s .link }
+ledgerOf s p g = record { base = p; travel = g; last = s .axis .shaft .last .0; stored = s .axis .stored; link = s .link }
 
 -- what is kept: p is the origin of the state and g
 abbrev pub Keeps : State → ℕ → ℤ → Type 0
-Keeps s p g = Kept (rulesOn (s .axis)) p g (s .axis .travel) (s .axis .offset)
+Keeps s p g = Kept (rulesOn (s .axis)) p g (s .axis .shaft) (s .axis .offset)
 
-pub record Stands (d : Device) (s : State) (l : Ledger) : Type 0 where
+pub record Matches (d : Device) (s : State) (l : Ledger) : Type 0 where
   pub device : deviceOf (s .axis) ≡ d
   pub ledger : ledgerOf s (l .base) (l .travel) ≡ l
   pub kept : Keeps s (l .base) (l .travel)
@@ -46,36 +46,36 @@ module _ (s : State) (p : ℕ) (g : ℤ) (lim : Limits (s .axis)) (k : Keeps s p
   -- so the position agrees
   pub stands-agrees : Agrees (deviceOf (s .axis)) (ledgerOf s p g) (positionOf (s .axis))
   unfolding positionOf rulesOn
-  stands-agrees = agrees (deviceOf (s .axis)) (lim .travel .sound) (ledgerOf s p g) (s .axis .travel) (s .axis .offset) k
+  stands-agrees = agrees (deviceOf (s .axis)) (lim .shaft .sound) (ledgerOf s p g) (s .axis .shaft) (s .axis .offset) k
 
   -- ---- a raw number that is accepted
-  pub stands-moved : (raw : ℕ) (m : ℕ → ℤ) → Shows (deviceOf (s .axis)) (s .axis .travel .last .0) raw (m 0)
-      → Stands (deviceOf (s .axis)) (onward s (atRaw (s .axis) raw)) (moved (ledgerOf s p g) (raw ∷ []) m)
-  unfolding atRaw movedTo moved rulesOn
+  pub stands-moved : (raw : ℕ) (m : ℕ → ℤ) → Shows (deviceOf (s .axis)) (s .axis .shaft .last .0) raw (m 0)
+      → Matches (deviceOf (s .axis)) (onward s (atRaw (s .axis) raw)) (withReadings (ledgerOf s p g) (raw ∷ []) m)
+  unfolding atRaw movedTo withReadings rulesOn
   stands-moved raw m h =
       let d = deviceOf (s .axis) in
-      let t = s .axis .travel in
+      let t = s .axis .shaft in
       record {
         device = refl;
         ledger = refl;
-        kept = rw (← went d (lim .travel .sound) (t .last .0) raw (m 0) h) (kept-move (force d) (lim .travel .sound) p g t (s .axis .offset) raw k);
+        kept = rw (← went d (lim .shaft .sound) (t .last .0) raw (m 0) h) (kept-move (force d) (lim .shaft .sound) p g t (s .axis .offset) raw k);
       }
 
 -- what a call leaves, by what the ledger says that it does
 pub record Done (s : State) (l : Ledger) (m : ℕ → ℤ) (did : Deed) (b : State) : Type 0 where
-  pub stands : Stands (deviceOf (s .axis)) b (noted l did m (positionOf (b .axis)))
-  pub puts : Puts (deviceOf (s .axis)) (did .preset) (number (reported (readSingly ours s (did .numbers) .axis))) (positionOf (b .axis))
+  pub stands : Matches (deviceOf (s .axis)) b (noted l did m (positionOf (b .axis)))
+  pub puts : Rule6 (deviceOf (s .axis)) (did .preset) (number (reported (readSingly ours s (did .numbers) .axis))) (positionOf (b .axis))
 
 -- ---- raw numbers one after the other: where they lead, and the position at each
 pub walked : (s : State) (p : ℕ) (g : ℤ) (raws : List ℕ) (m : ℕ → ℤ) → Limits (s .axis) → Keeps s p g
     → let d = deviceOf (s .axis) in let l = ledgerOf s p g in
     refusalIn (force d) (l .last) raws ≡ 0 → Supposed d (l .last) raws m
-    → Stands d (onward s (after (s .axis) raws)) (moved l raws m) × Entries d l raws m (positionsOf (s .axis) raws)
-unfolding refusalIn Supposed after positionsOf moved Entries rulesOn atRaw movedTo
+    → Matches d (onward s (after (s .axis) raws)) (withReadings l raws m) × Entries d l raws m (positionsOf (s .axis) raws)
+unfolding refusalIn Supposed after positionsOf withReadings Entries rulesOn atRaw movedTo
 walked s p g [] m lim k none h = (record { device = refl; ledger = refl; kept = k }, tt)
 walked s p g (raw ∷ raws) m lim k none h =
     let a = s .axis in
-    let both = before-none (moveRefusal (rulesOn a) (a .travel .last .0) raw) (refusalIn (rulesOn a) raw raws) none in
+    let both = before-none (moveRefusal (rulesOn a) (a .shaft .last .0) raw) (refusalIn (rulesOn a) raw raws) none in
     let t = singly a lim raw 0 (both .0) in
     let b = onward s (atRaw a raw) in
     let b-limits : Limits (atRaw a raw) = rw t at (raw-kept a lim raw) in

@@ -10,19 +10,19 @@ use lib.IntN.{ℤ}
 use lib.ListN.{length}
 use Rattle.encoder.specs.Refusal.{wrongBuffer, when, answer}
 use Rattle.encoder.proofs.RefusalLaws.{before-none}
-use Rattle.sensor.specs.Reading.{rawOf}
-use Rattle.travel.specs.Travel.{moveRefusal}
-use Rattle.travel.specs.Batch.{refusalIn}
-use Rattle.axis.specs.Axis.{rulesOn, positionOf}
+use Rattle.sensor.specs.Raw.{rawOf}
+use Rattle.axis_shaft.specs.Rules.{moveRefusal}
+use Rattle.axis_shaft.specs.Batch.{refusalIn}
+use Rattle.axis.specs.Limits.{rulesOn, positionOf}
 use Rattle.axis.proofs.AxisLaws.{Limits}
 use Rattle.axis.proofs.PositionLaws.{reported-is}
-use Rattle.batch.specs.Batch.{after, positionsOf, batchList}
+use Rattle.axis_batch.specs.Batch.{after, positionsOf, batchList}
 use Rattle.accuracy.specs.Calls.{Call, reading, rawReading, batching, presetting, storing, cycling}
-use Rattle.accuracy.specs.Ledger.{Device, force, Ledger, refusalBy, moves, does, deed, moved, noted}
+use Rattle.accuracy.specs.Ledger.{Device, force, Ledger, refusalBy, moves, does, deed, withReadings, noted}
 use Rattle.accuracy.specs.Claim.{Supposed, Entries, Lent, readSingly}
 use Rattle.accuracy.specs.Run.{State, yields, lentBy}
 use Rattle.accuracy.proofs.LimitsKept.{call-kept}
-use Rattle.accuracy.proofs.Standing.{deviceOf, ledgerOf, Keeps, Stands, onward, stands-moved, walked, Done}
+use Rattle.accuracy.proofs.Standing.{deviceOf, ledgerOf, Keeps, Matches, onward, stands-moved, walked, Done}
 use Rattle.accuracy.proofs.Presets.{puts-by, stands-preset}
 use Rattle.accuracy.proofs.Settled.{goes, settled, list-is, input-is}
 use Rattle.accuracy.proofs.Cycles.{cycle-by}
@@ -37,13 +37,13 @@ module _ (s : State) (p : ℕ) (g : ℤ) (lim : Limits (s .axis)) (k : Keeps s p
 
   -- ---- a call that is not refused
   batch-done : (raws positions : List ℕ) → refusalBy d l (batching raws positions) ≡ 0 → Supposed d (l .last) raws m
-      → Stands d (onward s (after (s .axis) raws)) (moved l raws m) × Entries d l raws m (positionsOf (s .axis) raws)
+      → Matches d (onward s (after (s .axis) raws)) (withReadings l raws m) × Entries d l raws m (positionsOf (s .axis) raws)
   batch-done raws positions e h =
       let lengths = when (not (eqb (length raws) (length positions))) wrongBuffer in
       walked s p g raws m lim k (before-none lengths (refusalIn (force d) (l .last) raws) e .1) h
 
   taken : (c : Call) → refusalBy d l c ≡ 0 → Supposed d (l .last) (does d l c .numbers) m → Done s l m (does d l c) (goes s c)
-  unfolding Supposed moved readSingly rulesOn
+  unfolding Supposed withReadings readSingly rulesOn
   taken (reading step turn) e h = record { stands = stands-moved s p g lim k (rawOf (s .axis .nameplate) step turn) m (h .0); puts = tt }
   taken (rawReading raw) e h = record { stands = stands-moved s p g lim k raw m (h .0); puts = tt }
   taken (batching raws positions) e h = record { stands = batch-done raws positions e h .0; puts = tt }
@@ -55,7 +55,7 @@ module _ (s : State) (p : ℕ) (g : ℤ) (lim : Limits (s .axis)) (k : Keeps s p
   -- ---- refused, it does nothing
   by-number : (c : Call) (n : ℕ) → refusalBy d l c ≡ n → Supposed d (l .last) (answer (λ (i : ℕ). moves l []) (does d l c) n .numbers) m
       → Done s l m (answer (λ (i : ℕ). moves l []) (does d l c) n) (answer (λ (i : ℕ). s) (goes s c) n)
-  unfolding moved
+  unfolding withReadings
   by-number c zero e h = taken c e h
   by-number c (suc n) e h = record { stands = record { device = refl; ledger = refl; kept = k }; puts = tt }
 

@@ -8,11 +8,11 @@ use lib.IntN.{ℤ, pos, _-ℤ_, _*ℤ_}
 use Rattle.integer.specs.Modulus.{_modulo_}
 use Rattle.integer.proofs.Signed.{above, below, signed, add-is, diff-is, mul-is, of-eq}
 use Rattle.integer.proofs.Modulus.{modulo-has, modulo-alike}
-use Rattle.encoder.specs.InForce.{Sound}
+use Rattle.encoder.specs.Force.{Sound}
 use Rattle.encoder.proofs.RefusalLaws.{before-none}
-use Rattle.travel.specs.Travel.{oriented, difference, moveOf, moveRefusal}
-use Rattle.travel.specs.Batch.{refusalIn}
-use Rattle.travel.proofs.ShorterWay.{shorter-way, shorter-only}
+use Rattle.axis_shaft.specs.Rules.{oriented, difference, moveOf, moveRefusal}
+use Rattle.axis_shaft.specs.Batch.{refusalIn}
+use Rattle.axis_shaft.proofs.ShorterWay.{shorter-way, shorter-only}
 use Rattle.accuracy.specs.Ledger.{Device, force}
 use Rattle.accuracy.specs.Claim.{Shows, Supposed}
 

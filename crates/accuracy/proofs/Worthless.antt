@@ -12,24 +12,24 @@ use Rattle.integer.specs.Octets.{bigEndian, octets}
 use Rattle.integer.proofs.Signed.{apart}
 use Rattle.integer.proofs.Size.{abs-is}
 use Rattle.ring.specs.Ring.{inRange}
-use Rattle.encoder.specs.Nameplate.{plateRefusal}
-use Rattle.encoder.specs.Parameters.{fieldsRefusal, refusalOn}
-use Rattle.encoder.specs.InForce.{rulesOf, rulesFit}
-use Rattle.sensor.specs.Reading.{stepRefusal}
-use Rattle.travel.specs.Travel.{inside, oriented, started, difference, shorter, moveOf, moveRefusal, movedTo, unshifted, positionAt, travelRefusal}
-use Rattle.travel.specs.Batch.{refusalIn}
-use Rattle.shift.specs.Shift.{valueRefusal}
-use Rattle.axis.specs.Axis.{rulesOn, acceptable, axisRefusal, unshiftedOf, positionOf, reported}
+use Rattle.encoder.specs.Plate.{plateRefusal}
+use Rattle.encoder.specs.Rows.{fieldsRefusal, refusalOn}
+use Rattle.encoder.specs.Force.{rulesOf, rulesFit}
+use Rattle.sensor.specs.Raw.{stepRefusal}
+use Rattle.axis_shaft.specs.Rules.{inside, oriented, started, difference, shorter, moveOf, moveRefusal, movedTo, unshifted, positionAt, shaftRefusal}
+use Rattle.axis_shaft.specs.Batch.{refusalIn}
+use Rattle.axis_offset.specs.Offset.{valueRefusal}
+use Rattle.axis.specs.Limits.{rulesOn, acceptable, axisRefusal, unshiftedOf, positionOf, reported}
 use Rattle.axis.specs.Reading.{startRefusal, start, atRaw, readRawRefusal, readRaw}
 use Rattle.axis.specs.Preset.{presetRefusal, asked, presetted, preset}
-use Rattle.batch.specs.Batch.{firstRefusal, positionsOf, batchRefusal, batchList}
+use Rattle.axis_batch.specs.Batch.{firstRefusal, positionsOf, batchRefusal, batchList}
 use Rattle.cyclic.specs.Raw.{faultyAt, takenAt}
-use Rattle.link.specs.Class2.{made, link}
+use Rattle.cyclic_link.specs.Class2.{made, link}
 use Rattle.cyclic.specs.Class2.{axis, input}
 use Rattle.cyclic.specs.Cycle.{lengthRefusal, cycleRefusal, linkAfter, axisAfter, inputOf, cycle, cycleInput}
 use Rattle.phase.proofs.Kept.{off-is}
 use Rattle.accuracy.specs.Calls.{Call, rawReading, batching, presetting, cycling}
-use Rattle.accuracy.specs.Ledger.{force, deed, moved}
+use Rattle.accuracy.specs.Ledger.{force, deed, withReadings}
 use Rattle.accuracy.specs.Claim.{Program, Supposed, off, Entries, readSingly, Accurate, Claim}
 use Rattle.accuracy.specs.Run.{library}
 use Rattle.accuracy.specs.Worthless.{at, always0, turnsAway, claimsHalfRange, ignoresReadings, ignoresPresets, copiesFirst, scalesAfresh, wrapsAtC, cutsPlace, addsRounded, alwaysAbsolute, presetsWhenFaulty, forgetsLink, showsFresh}
@@ -63,7 +63,7 @@ reports : (then turnsAway (rawReading 4) ≡ at 1 1)
     × (showsFresh .lent (showsFresh .call (begun showsFresh) (asks 28 0)) (asks 28 3) ≡ 0 ∷ 0 ∷ 0 ∷ 3 ∷ [])
     × (copiesFirst .lent (begun copiesFirst) pass ≡ 3 ∷ 3 ∷ [])
     × (then library (rawReading 3) ≡ at 2 2)
-unfolding _modulo_ inRange bigEndian fieldsRefusal refusalOn plateRefusal rulesOf rulesFit inside oriented started difference shorter moveOf moveRefusal movedTo unshifted positionAt travelRefusal rulesOn acceptable axisRefusal unshiftedOf positionOf reported startRefusal start stepRefusal atRaw readRawRefusal readRaw valueRefusal presetRefusal asked presetted preset faultyAt takenAt made axis lengthRefusal cycleRefusal axisAfter inputOf cycle cycleInput linkAfter link input octets firstRefusal positionsOf batchRefusal batchList
+unfolding _modulo_ inRange bigEndian fieldsRefusal refusalOn plateRefusal rulesOf rulesFit inside oriented started difference shorter moveOf moveRefusal movedTo unshifted positionAt shaftRefusal rulesOn acceptable axisRefusal unshiftedOf positionOf reported startRefusal start stepRefusal atRaw readRawRefusal readRaw valueRefusal presetRefusal asked presetted preset faultyAt takenAt made axis lengthRefusal cycleRefusal axisAfter inputOf cycle cycleInput linkAfter link input octets firstRefusal positionsOf batchRefusal batchList
 reports = (refl, refl, refl, refl, refl, refl, refl, refl, refl, refl, refl, refl, refl, refl, refl, refl, refl)
 
 -- the true steps are as supposed
@@ -82,7 +82,7 @@ no-always0 h = let t = told listing first 0 (h listing there started-there []) i
 
 -- ---- what no program may report after raw number 4: exact is 10.2, which on the ring of 7 is 3.2
 too-far : (p : Program) (x u : ℕ) → Claim p → then p (rawReading 4) ≡ at x u → x < 3 → ⊥
-unfolding moved moveRefusal difference oriented _modulo_ rulesOf
+unfolding withReadings moveRefusal difference oriented _modulo_ rulesOf
 too-far p x u h e lt = let t = told listing (later p (rawReading 4) (pos 6)) x (rw e at (after p h (rawReading 4) (pos 6) read-4)) in omega arith
 
 pub no-turnsAway : Claim turnsAway → ⊥
@@ -123,7 +123,7 @@ no-alwaysAbsolute h = omega (arith, put-1 alwaysAbsolute 1 1 h (reports .8) (rep
 
 -- ---- a faulty cycle: exact is still 8.4, which on the ring of 7 is 1.4
 pub no-presetsWhenFaulty : Claim presetsWhenFaulty → ⊥
-unfolding Supposed moved lengthRefusal moveRefusal rulesOf oriented
+unfolding Supposed withReadings lengthRefusal moveRefusal rulesOf oriented
 no-presetsWhenFaulty h =
     let t = told listing (later presetsWhenFaulty (asks 30 0) (pos 0)) 0 (rw (reports .10) at (after presetsWhenFaulty h (asks 30 0) (pos 0) tt)) in
     omega arith
@@ -134,7 +134,7 @@ unfolding Supposed lengthRefusal moveRefusal difference oriented _modulo_ rulesO
 stands-still = (record { small = omega arith; times = pos 0; same = refl }, tt)
 
 no-second : (p : Program) (u v : ℕ) → Claim p → then p (asks 28 0) ≡ at 0 u → twice p (asks 28 0) (asks 28 3) ≡ at 3 v → ⊥
-unfolding Supposed moved lengthRefusal bigEndian moveRefusal difference oriented _modulo_ rulesOf linkAfter link
+unfolding Supposed withReadings lengthRefusal bigEndian moveRefusal difference oriented _modulo_ rulesOf linkAfter link
 no-second p u v h e f =
     let t = another p h (asks 28 0) (pos 0) stands-still (asks 28 3) (pos 0) stands-still .1 in
     let a = told listing _ 3 (rw (e, f) at t) in
@@ -144,7 +144,7 @@ pub no-forgetsLink : Claim forgetsLink → ⊥
 no-forgetsLink h = no-second forgetsLink 1 1 h (reports .11) (reports .12)
 
 no-input : (p : Program) (u : ℕ) → Claim p → then p (asks 28 0) ≡ at 0 u → p .lent (p .call (begun p) (asks 28 0)) (asks 28 3) ≡ 0 ∷ 0 ∷ 0 ∷ 3 ∷ [] → ⊥
-unfolding Supposed moved lengthRefusal bigEndian moveRefusal difference oriented _modulo_ rulesOf linkAfter link
+unfolding Supposed withReadings lengthRefusal bigEndian moveRefusal difference oriented _modulo_ rulesOf linkAfter link
 no-input p u h e f =
     let t = another p h (asks 28 0) (pos 0) stands-still (asks 28 3) (pos 0) stands-still .0 in
     let a = told listing _ 3 ((rw (e, f) at t) refl .class2 refl) in
@@ -155,7 +155,7 @@ no-showsFresh h = no-input showsFresh 1 h (reports .13) (reports .14)
 
 -- ---- the second entry of the batch: exact is 12, which on the ring of 7 is 5
 second : (p : Program) → Claim p → p .lent (begun p) pass ≡ 3 ∷ 3 ∷ [] → ⊥
-unfolding Entries moved refusalIn moveRefusal difference oriented _modulo_ rulesOf
+unfolding Entries withReadings refusalIn moveRefusal difference oriented _modulo_ rulesOf
 second p h e = let t = told listing _ 3 ((rw e at (lent p h pass (pos 6) read-pass)) .1 .0) in omega arith
 
 pub no-copiesFirst : Claim copiesFirst → ⊥
@@ -164,7 +164,7 @@ no-copiesFirst h = second copiesFirst h (reports .15)
 -- ---- half a unit would be too much to claim: after raw number 3, 5 steps on, exact is 9.9, on the ring 2.9, and the library reports 2
 pub no-half : (then library (rawReading 3) ≡ at 2 2)
     × ((w : ℤ) → 2 * natAbs (off listing (later library (rawReading 3) (pos 5)) 2 w) < force listing .steps .0 → ⊥)
-unfolding rulesOf moved moveRefusal difference oriented _modulo_
+unfolding rulesOf withReadings moveRefusal difference oriented _modulo_
 no-half = (
   reports .16,
   λ w h.

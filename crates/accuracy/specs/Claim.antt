@@ -26,13 +26,13 @@ use Rattle.integer.specs.Modulus.{_modulo_}
 use Rattle.integer.specs.Octets.{part, bigEndian}
 use Rattle.encoder.specs.declared.nameplate.Nameplate.{Nameplate}
 use Rattle.encoder.specs.declared.parameters.Parameters.{Parameters}
-use Rattle.encoder.specs.Parameters.{fieldsOf}
-use Rattle.travel.specs.Travel.{oriented}
-use Rattle.travel.specs.declared.Reported.{Reported}
-use Rattle.travel.specs.declared.Reported.the-variants.{At, Refused}
-use Rattle.cyclic.specs.Cycle.{four}
+use Rattle.encoder.specs.Rows.{fieldsOf}
+use Rattle.axis_shaft.specs.Rules.{oriented}
+use Rattle.axis_shaft.specs.declared.Reported.{Reported}
+use Rattle.axis_shaft.specs.declared.Reported.the-variants.{At, Refused}
+use Rattle.cyclic.specs.Cycle.{class4}
 use Rattle.accuracy.specs.Calls.{First, Call, reading, rawReading, batching, presetting, storing, cycling}
-use Rattle.accuracy.specs.Ledger.{Device, force, Ledger, startBy, firstRaw, opened, refusalBy, Preset, none, made, deed, moved, noted}
+use Rattle.accuracy.specs.Ledger.{Device, force, Ledger, startBy, firstRaw, opened, refusalBy, Preset, none, made, deed, withReadings, noted}
 
 -- any program: a start, calls, its answer when it is asked for the position, and the lent list or octets as a call on that state leaves them
 pub record Program : Type 1 where
@@ -82,14 +82,14 @@ unfoldable pub Entries : Device → Ledger → List ℕ → (ℕ → ℤ) → Li
 Entries d l [] m xs = Unit
 Entries d l (raw ∷ raws) m [] = ⊥
 Entries d l (raw ∷ raws) m (x ∷ xs) =
-    Agrees d (moved l (raw ∷ []) m) x × Entries d (moved l (raw ∷ []) m) raws (λ i. m (suc i)) xs
+    Agrees d (withReadings l (raw ∷ []) m) x × Entries d (withReadings l (raw ∷ []) m) raws (λ i. m (suc i)) xs
 
 -- and wherever the cycle's rules put it in the input: class 2 in its four octets, class 4 in G1_XIST1 unless block bit 2 asks for the unshifted
 -- position there, and in G1_XIST2 while no error is held
 pub record Shown (d : Device) (l : Ledger) (input : List ℕ) : Type 0 where
-  pub class2 : four (d .parameters) ≡ false → Agrees d l (bigEndian (part 1 4 input))
-  pub xist1 : four (d .parameters) ≡ true → bit 2 (fieldsOf (d .parameters) .operating) ≡ false → Agrees d l (bigEndian (part 5 8 input))
-  pub xist2 : four (d .parameters) ≡ true → l .link .error ≡ false → Agrees d l (bigEndian (part 9 12 input))
+  pub class2 : class4 (d .parameters) ≡ false → Agrees d l (bigEndian (part 1 4 input))
+  pub xist1 : class4 (d .parameters) ≡ true → bit 2 (fieldsOf (d .parameters) .operating) ≡ false → Agrees d l (bigEndian (part 5 8 input))
+  pub xist2 : class4 (d .parameters) ≡ true → l .link .error ≡ false → Agrees d l (bigEndian (part 9 12 input))
 
 abbrev pub Lent : Device → Ledger → Call → (ℕ → ℤ) → Ledger → List ℕ → Type 0
 Lent d l (batching raws positions) m after lent = Entries d l (deed d l (batching raws positions) .numbers) m lent
@@ -100,10 +100,10 @@ Lent d l (presetting v relative) m after lent = Unit
 Lent d l (storing v) m after lent = Unit
 
 -- ---- the position just after a preset must be the one rule 6 gives
-abbrev pub Puts : Device → Preset → ℕ → ℕ → Type 0
-Puts d none before reported = Unit
-Puts d (made v false) before reported = reported ≡ v modulo force d .span .0
-Puts d (made v true) before reported = reported ≡ (pos before +ℤ v) modulo force d .span .0
+abbrev pub Rule6 : Device → Preset → ℕ → ℕ → Type 0
+Rule6 d none before reported = Unit
+Rule6 d (made v false) before reported = reported ≡ v modulo force d .span .0
+Rule6 d (made v true) before reported = reported ≡ (pos before +ℤ v) modulo force d .span .0
 
 -- a relative one counts from the position after the call's raw numbers, which is the one that they lead to when read singly
 unfoldable pub readSingly : (p : Program) → p .State → List ℕ → p .State
@@ -121,7 +121,7 @@ Accurate d p a l (e ∷ es) =
     let after = noted l did (e .steps) reported in
     Reports d l (p .position a)
     × (Supposed d (l .last) (did .numbers) (e .steps)
-    → Puts d (did .preset) before reported
+    → Rule6 d (did .preset) before reported
     × Lent d l (e .call) (e .steps) after (p .lent a (e .call))
     × Accurate d p b after es)
 

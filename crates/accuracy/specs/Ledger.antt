@@ -12,19 +12,19 @@ use Rattle.encoder.specs.declared.nameplate.Nameplate.{Nameplate}
 use Rattle.encoder.specs.declared.parameters.Parameters.{Parameters}
 use Rattle.encoder.specs.declared.effect.InForce.{InForce}
 use Rattle.encoder.specs.Refusal.{wrongBuffer, when, _before_, answer}
-use Rattle.encoder.specs.Parameters.{fieldsOf}
-use Rattle.encoder.specs.InForce.{rulesOf}
-use Rattle.sensor.specs.Reading.{rawOf, stepRefusal}
-use Rattle.travel.specs.Travel.{oriented, moveRefusal}
-use Rattle.travel.specs.Batch.{refusalIn}
-use Rattle.shift.specs.Shift.{valueRefusal}
-use Rattle.link.specs.declared.Link.{Link}
-use Rattle.link.specs.Link.{quiet}
-use Rattle.link.specs.Class2 as Class2
-use Rattle.link.specs.Class4 as Class4
+use Rattle.encoder.specs.Rows.{fieldsOf}
+use Rattle.encoder.specs.Force.{rulesOf}
+use Rattle.sensor.specs.Raw.{rawOf, stepRefusal}
+use Rattle.axis_shaft.specs.Rules.{oriented, moveRefusal}
+use Rattle.axis_shaft.specs.Batch.{refusalIn}
+use Rattle.axis_offset.specs.Offset.{valueRefusal}
+use Rattle.cyclic_link.specs.declared.Link.{Link}
+use Rattle.cyclic_link.specs.Quiet.{quiet}
+use Rattle.cyclic_link.specs.Class2 as Class2
+use Rattle.cyclic_link.specs.Class4 as Class4
 use Rattle.cyclic.specs.Class2.{wordOf}
 use Rattle.cyclic.specs.Class4.{counted}
-use Rattle.cyclic.specs.Cycle.{four, lengthRefusal, linkAfter}
+use Rattle.cyclic.specs.Cycle.{class4, lengthRefusal, linkAfter}
 use Rattle.axis.specs.Reading.{startRefusal, startRawRefusal}
 use Rattle.accuracy.specs.Calls.{First, firstReading, firstNumber, Call, reading, rawReading, batching, presetting, storing, cycling}
 
@@ -68,7 +68,7 @@ refusalBy d l (batching raws positions) =
     when (not (eqb (length raws) (length positions))) wrongBuffer before refusalIn (force d) (l .last) raws
 refusalBy d l (presetting v relative) = valueRefusal (force d) v
 refusalBy d l (storing v) = valueRefusal (force d) v
-refusalBy d l (cycling raw output input) = lengthRefusal (four (d .parameters)) (length output) (length input)
+refusalBy d l (cycling raw output input) = lengthRefusal (class4 (d .parameters)) (length output) (length input)
 
 -- ---- by the rules: what a call does
 pub data Preset : Type 0 where
@@ -97,7 +97,7 @@ abbrev pub preset4 : Device → Ledger → ℕ → Preset
 preset4 d l word = cond (rises d l (Class4.asked word) && not (Class4.held (l .link) false word)) (made (l .stored) (Class4.relative word)) none
 
 abbrev pub cyclePreset : Device → Ledger → List ℕ → Preset
-cyclePreset d l output = cond (four (d .parameters)) (preset4 d l (counted output)) (preset2 d l (wordOf output))
+cyclePreset d l output = cond (class4 (d .parameters)) (preset4 d l (counted output)) (preset2 d l (wordOf output))
 
 abbrev pub does : Device → Ledger → Call → Deed
 does d l (reading step turn) = moves l (rawOf (d .plate) step turn ∷ [])
@@ -120,10 +120,10 @@ deed d l c = answer (λ _. moves l []) (does d l c) (refusalBy d l c)
 
 -- ---- the entries
 -- raw number accepted: g grows by m. The true steps before the i-th raw number of a call are m i, counted from 0
-unfoldable pub moved : Ledger → List ℕ → (ℕ → ℤ) → Ledger
-moved l [] m = l
-moved l (raw ∷ raws) m =
-    moved (record { base = l .base; travel = l .travel +ℤ m 0; last = raw; stored = l .stored; link = l .link }) raws (λ i. m (suc i))
+unfoldable pub withReadings : Ledger → List ℕ → (ℕ → ℤ) → Ledger
+withReadings l [] m = l
+withReadings l (raw ∷ raws) m =
+    withReadings (record { base = l .base; travel = l .travel +ℤ m 0; last = raw; stored = l .stored; link = l .link }) raws (λ i. m (suc i))
 
 -- preset made: p = the position just after it, and g = 0; else no change
 abbrev pub put : Preset → Ledger → ℕ → Ledger
@@ -135,4 +135,4 @@ abbrev pub keeping : Ledger → ℤ → Link → Ledger
 keeping l stored link = record { base = l .base; travel = l .travel; last = l .last; stored = stored; link = link }
 
 abbrev pub noted : Ledger → Deed → (ℕ → ℤ) → ℕ → Ledger
-noted l e m reported = put (e .preset) (moved (keeping l (e .stored) (e .link)) (e .numbers) m) reported
+noted l e m reported = put (e .preset) (withReadings (keeping l (e .stored) (e .link)) (e .numbers) m) reported

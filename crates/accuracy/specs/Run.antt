@@ -7,12 +7,12 @@ use Rattle.encoder.specs.declared.nameplate.Nameplate.{Nameplate}
 use Rattle.encoder.specs.declared.parameters.Parameters.{Parameters}
 use Rattle.axis.specs.declared.Axis.{Axis}
 use Rattle.axis.specs.declared.Next.{Next}
-use Rattle.axis.specs.Axis.{reported}
+use Rattle.axis.specs.Limits.{reported}
 use Rattle.axis.specs.Reading.{start, startRaw, readRaw, read}
 use Rattle.axis.specs.Preset.{preset, store}
-use Rattle.batch.specs.Batch.{batch, batchList}
-use Rattle.link.specs.declared.Link.{Link}
-use Rattle.link.specs.Link.{quiet}
+use Rattle.axis_batch.specs.Batch.{batch, batchList}
+use Rattle.cyclic_link.specs.declared.Link.{Link}
+use Rattle.cyclic_link.specs.Quiet.{quiet}
 use Rattle.cyclic.specs.declared.Cycled.{Cycled}
 use Rattle.cyclic.specs.Cycle.{cycle, cycleInput}
 use Rattle.accuracy.specs.Calls.{First, firstReading, firstNumber, Call, reading, rawReading, batching, presetting, storing, cycling}

@@ -17,8 +17,8 @@ use Rattle.accuracy.specs.Ours.{ours}
 abbrev pub listing : Device
 listing = record { plate = plate; parameters = Class2 0x0a (record { 0 = 3 }) (record { 0 = 7 }) }
 
-abbrev pub four : ℕ → Device
-four operating = record { plate = plate; parameters = Class4 operating (record { 0 = 3 }) (record { 0 = 7 }) 0 0 }
+abbrev pub device4 : ℕ → Device
+device4 operating = record { plate = plate; parameters = Class4 operating (record { 0 = 3 }) (record { 0 = 7 }) 0 0 }
 
 pub record Line : Type 0 where
   pub event : Event

@@ -8,13 +8,13 @@ use lib.IntN.{pos, _+ℤ_, _-ℤ_, _*ℤ_}
 use lib.ListN.{length, getD, replicate}
 use lib.Signed.{quotZ}
 use Rattle.integer.specs.Modulus.{_modulo_}
-use Rattle.travel.specs.Travel.{oriented, moveOf}
-use Rattle.travel.specs.declared.Reported.{Reported}
-use Rattle.travel.specs.declared.Reported.the-variants.{At}
+use Rattle.axis_shaft.specs.Rules.{oriented, moveOf}
+use Rattle.axis_shaft.specs.declared.Reported.{Reported}
+use Rattle.axis_shaft.specs.declared.Reported.the-variants.{At}
 use Rattle.axis.specs.declared.Axis.{Axis}
-use Rattle.axis.specs.Axis.{rulesOn, unshiftedOf, positionOf, reported}
-use Rattle.axis.specs.Reading.{travelled}
-use Rattle.link.specs.Link.{quiet}
+use Rattle.axis.specs.Limits.{rulesOn, unshiftedOf, positionOf, reported}
+use Rattle.axis.specs.Reading.{withShaft}
+use Rattle.cyclic_link.specs.Quiet.{quiet}
 use Rattle.cyclic.specs.Raw.{faultyAt}
 use Rattle.accuracy.specs.Calls.{Call, reading, rawReading, batching, presetting, storing, cycling}
 use Rattle.accuracy.specs.Claim.{Program}
@@ -45,28 +45,28 @@ leaves f =
     }
 
 abbrev pub placed : Axis → ℕ → Axis
-placed a place = travelled a (record { place = record { 0 = place }; last = a .travel .last })
+placed a place = withShaft a (record { place = record { 0 = place }; last = a .shaft .last })
 
 abbrev pub turnsAway : Program
 turnsAway = leaves (λ a b. a)
 
 abbrev pub claimsHalfRange : Program
-claimsHalfRange = leaves (λ a b. travelled b (a .travel))
+claimsHalfRange = leaves (λ a b. withShaft b (a .shaft))
 
 abbrev pub ignoresReadings : Program
-ignoresReadings = leaves (λ a b. placed b (a .travel .place .0))
+ignoresReadings = leaves (λ a b. placed b (a .shaft .place .0))
 
 abbrev pub scalesAfresh : Program
-scalesAfresh = leaves (λ a b. placed b (oriented (rulesOn b) (b .travel .last .0)))
+scalesAfresh = leaves (λ a b. placed b (oriented (rulesOn b) (b .shaft .last .0)))
 
 -- keeps the place modulo C, and not modulo R × L
 abbrev pub wrapsAtC : Program
-wrapsAtC = leaves (λ a b. placed b (b .travel .place .0 % rulesOn b .capacity .0))
+wrapsAtC = leaves (λ a b. placed b (b .shaft .place .0 % rulesOn b .capacity .0))
 
 -- cuts the place to whole units, so that the next move is added to a rounded position
 abbrev pub cutsPlace : Program
 cutsPlace =
-    leaves (λ a b. placed b (b .travel .place .0 * rulesOn b .scale .0 / rulesOn b .steps .0 * rulesOn b .steps .0 / rulesOn b .scale .0))
+    leaves (λ a b. placed b (b .shaft .place .0 * rulesOn b .scale .0 / rulesOn b .steps .0 * rulesOn b .steps .0 / rulesOn b .scale .0))
 
 -- ---- another call in the place of the one that came: other raw numbers of a batch, another kind of preset, another raw number of a cycle
 abbrev pub instead : (List ℕ → List ℕ) → (Bool → Bool) → (ℕ → ℕ) → Call → Call
@@ -98,7 +98,7 @@ alwaysAbsolute = takes (λ a c. instead (λ raws. raws) (λ relative. false) (λ
 -- takes the last raw number for one that would be refused, and so makes a preset in a faulty cycle
 abbrev pub presetsWhenFaulty : Program
 presetsWhenFaulty =
-    takes (λ a c. instead (λ raws. raws) (λ relative. relative) (λ raw. cond (faultyAt a raw) (a .travel .last .0) raw) c)
+    takes (λ a c. instead (λ raws. raws) (λ relative. relative) (λ raw. cond (faultyAt a raw) (a .shaft .last .0) raw) c)
 
 -- ---- another link: none goes from cycle to cycle, or the input octets are those of a cycle with a fresh one
 abbrev pub fresh : State → State
@@ -121,7 +121,7 @@ added s c =
     let a = s .state .axis in
     let b = yields (s .state) c .axis in
     let f = rulesOn a in
-    let move = quotZ (moveOf f (a .travel .last .0) (b .travel .last .0) *ℤ pos (f .scale .0)) (pos (f .steps .0)) in
+    let move = quotZ (moveOf f (a .shaft .last .0) (b .shaft .last .0) *ℤ pos (f .scale .0)) (pos (f .steps .0)) in
     record { state = yields (s .state) c; position = (pos (s .position) +ℤ move +ℤ (b .offset -ℤ a .offset)) modulo f .span .0 }
 
 abbrev pub addsRounded : Program

@@ -14,19 +14,19 @@ use Rattle.encoder.specs.declared.effect.InForce.{InForce}
 use Rattle.encoder.specs.declared.effect.Effect.{Effect}
 use Rattle.encoder.specs.declared.effect.Effect.the-variants.{Taken, Refused}
 use Rattle.encoder.specs.Refusal.{_before_, answer}
-use Rattle.encoder.specs.Parameters.{refusalOn}
-use Rattle.encoder.specs.InForce.{inForce}
+use Rattle.encoder.specs.Rows.{refusalOn}
+use Rattle.encoder.specs.Force.{inForce}
 use Rattle.encoder.proofs.PlateLaws.{and-split}
 use Rattle.encoder.proofs.RefusalLaws.{when-none, first-no}
 use Rattle.encoder.proofs.ForceLaws.{effect-taken, effect-refused, in-force-taken, in-force-refused}
-use Rattle.travel.specs.Travel.{inside, Inside}
-use Rattle.travel.proofs.TravelLaws.{inside-true, inside-is}
+use Rattle.axis_shaft.specs.Rules.{inside, Inside}
+use Rattle.axis_shaft.proofs.ShaftLaws.{inside-true, inside-is}
 use Rattle.axis.specs.declared.Axis.{Axis}
-use Rattle.axis.specs.Axis.{rulesOn, keeps, acceptable, axisRefusal, inForceOn, Ready}
+use Rattle.axis.specs.Limits.{rulesOn, keeps, acceptable, axisRefusal, inForceOn, Ready}
 
 -- ---- the test
 module _ (a : Axis) (e : Effect) where
-  module _ (f : InForce) (r o p q : Bool) (r-is : r ≡ inside f (a .travel))
+  module _ (f : InForce) (r o p q : Bool) (r-is : r ≡ inside f (a .shaft))
       (o-is : o ≡ inRange (toZ w64 (ofZ w64 (a .offset))) (f .span .0)) (o-fits : SFits w64 (a .offset))
       (p-is : p ≡ inRange (toZ w64 (ofZ w64 (a .preset))) (f .span .0)) (p-fits : SFits w64 (a .preset))
       (q-is : q ≡ inRange (toZ w64 (ofZ w64 (a .stored))) (f .span .0)) (q-fits : SFits w64 (a .stored))
@@ -57,7 +57,7 @@ pub ruleset rulings = (rules-taken, rules-out, rules-not)
 -- ---- the limits as facts
 pub record Limits (a : Axis) : Type 0 where
   pub none : refusalOn (a .nameplate) (a .parameters) ≡ 0
-  pub travel : Inside (rulesOn a) (a .travel)
+  pub shaft : Inside (rulesOn a) (a .shaft)
   pub offset : natAbs (a .offset) < rulesOn a .span .0
   pub preset : natAbs (a .preset) < rulesOn a .span .0
   pub stored : natAbs (a .stored) < rulesOn a .span .0
@@ -69,10 +69,10 @@ limits-of a e =
     let h = and-split _ (keeps f a) e in
     let s = and-split _ (inRange (a .stored) (f .span .0)) (h .1) in
     let p = and-split _ (inRange (a .preset) (f .span .0)) (s .0) in
-    let o = and-split (inside f (a .travel)) (inRange (a .offset) (f .span .0)) (p .0) in
+    let o = and-split (inside f (a .shaft)) (inRange (a .offset) (f .span .0)) (p .0) in
     record {
       none = eqb-true _ _ (h .0);
-      travel = inside-true f (a .travel) (o .0);
+      shaft = inside-true f (a .shaft) (o .0);
       offset = ltb-true _ _ (o .1);
       preset = ltb-true _ _ (p .1);
       stored = ltb-true _ _ (s .1);
@@ -83,7 +83,7 @@ unfolding acceptable inRange
 accepts a l =
     rw (
       eq-eqb _ _ (l .none),
-      inside-is (rulesOn a) (a .travel) (l .travel),
+      inside-is (rulesOn a) (a .shaft) (l .shaft),
       lt-ltb _ _ (l .offset),
       lt-ltb _ _ (l .preset),
       lt-ltb _ _ (l .stored),
@@ -105,7 +105,7 @@ module _ (a : Axis) (e : Effect) where
       let i = effect-taken (axisRefusal a) (rulesOn a) f (sym e-is ∙ h) in
       let t = when-none (acceptable a) 15 (i .0) in
       let l = limits-of a t in
-      record { is = i .1; stands = t; travel = rw (i .1) (l .travel); offset = rw (i .1) (l .offset) }
+      record { is = i .1; stands = t; shaft = rw (i .1) (l .shaft); offset = rw (i .1) (l .offset) }
 
   pub outside-of : (n : ℕ) → e ≡ Refused n → e ≡ inForceOn a → (axisRefusal a ≡ n) × (n ≡ 0 → ⊥)
   unfolding inForceOn
@@ -121,4 +121,4 @@ module _ (a : Axis) (f : InForce) (r : Ready a f) where
   stands-none = accepted-none a (r .stands)
 
   pub offset-fits : SFits w64 (a .offset)
-  offset-fits = fits-abs _ (omega (arith, r .offset, r .travel .sound .span-most))
+  offset-fits = fits-abs _ (omega (arith, r .offset, r .shaft .sound .span-most))

@@ -16,23 +16,23 @@ use Rattle.ring.specs.Ring.{inRange}
 use Rattle.encoder.specs.declared.nameplate.Nameplate.{Nameplate}
 use Rattle.encoder.specs.declared.parameters.Parameters.{Parameters}
 use Rattle.encoder.specs.Refusal.{wrongTurn, wrongPreset, classOff, when, _before_}
-use Rattle.sensor.specs.Reading.{rawOf, stepRefusal}
-use Rattle.encoder.specs.Nameplate.{capacityOf}
-use Rattle.encoder.specs.Parameters.{fieldsOf, refusalOn}
-use Rattle.encoder.specs.InForce.{rulesOf}
+use Rattle.sensor.specs.Raw.{rawOf, stepRefusal}
+use Rattle.encoder.specs.Plate.{capacityOf}
+use Rattle.encoder.specs.Rows.{fieldsOf, refusalOn}
+use Rattle.encoder.specs.Force.{rulesOf}
 use Rattle.encoder.proofs.RefusalLaws.{before-none}
 use Rattle.sensor.proofs.ReadingLaws.{reading-lt}
 use Rattle.encoder.proofs.SoundLaws.{taken-sound}
-use Rattle.travel.specs.Travel.{nowhere, started as travelStarted, unshifted, positionAt, travelRefusal}
-use Rattle.travel.proofs.TravelLaws.{inside-is, nowhere-out, started-kept as travel-kept}
-use Rattle.shift.specs.Shift.{valueRefusal}
+use Rattle.axis_shaft.specs.Rules.{nowhere, started as shaftStarted, unshifted, positionAt, shaftRefusal}
+use Rattle.axis_shaft.proofs.ShaftLaws.{inside-is, nowhere-out, started-kept as shaft-started}
+use Rattle.axis_offset.specs.Offset.{valueRefusal}
 use Rattle.axis.specs.declared.Axis.{Axis}
 use Rattle.axis.specs.declared.Next.{Next}
-use Rattle.axis.specs.Axis.{rulesOn, acceptable, axisRefusal, unshiftedOf, positionOf}
+use Rattle.axis.specs.Limits.{rulesOn, acceptable, axisRefusal, unshiftedOf, positionOf}
 use Rattle.axis.specs.Reading.{next, fresh, startRefusal, start, startRawRefusal, startRaw, atRaw, readRawRefusal, readRaw, readRefusal, read}
 use Rattle.axis.specs.Preset.{presetRefusal, asked, presetted, preset, holding, store}
 use Rattle.axis.proofs.AxisLaws.{Limits, limits-of, accepts}
-use Rattle.axis.proofs.ReadingLaws.{first, travelled-kept}
+use Rattle.axis.proofs.ReadingLaws.{first, at-raw-kept}
 
 pub apart-lt : (x y n : ℕ) → x < n → y < n → natAbs (pos x -ℤ pos y) < n
 apart-lt x y n h k = let z = pos x -ℤ pos y in omega (signed, diff-is (pos x) (pos y), abs-is z, apart z)
@@ -46,18 +46,18 @@ module _ (a : Axis) (l : Limits a) where
   -- ---- a reading that is taken moves the travel within its limits
   pub raw-kept : (raw : ℕ) → Limits (readRaw a raw .axis)
   unfolding readRaw readRawRefusal
-  raw-kept raw = by-number a (atRaw a raw) (readRawRefusal a raw) l (λ e. travelled-kept a l raw (before-none (axisRefusal a) _ e .1))
+  raw-kept raw = by-number a (atRaw a raw) (readRawRefusal a raw) l (λ e. at-raw-kept a l raw (before-none (axisRefusal a) _ e .1))
 
   pub read-kept : (s t : ℕ) → Limits (read a s t .axis)
   unfolding read readRefusal
   read-kept s t =
       let raw = rawOf (a .nameplate) s t in
-      let later = travelRefusal (rulesOn a) (a .travel) raw in
-      by-number a (atRaw a raw) (readRefusal a s t) l (λ e. travelled-kept a l raw (before-none (stepRefusal (a .nameplate) s t) later (before-none (axisRefusal a) _ e .1) .1))
+      let later = shaftRefusal (rulesOn a) (a .shaft) raw in
+      by-number a (atRaw a raw) (readRefusal a s t) l (λ e. at-raw-kept a l raw (before-none (stepRefusal (a .nameplate) s t) later (before-none (axisRefusal a) _ e .1) .1))
 
   -- ---- a preset's offset is a difference of two positions, and its value was tested
   span-least : 0 < rulesOn a .span .0
-  span-least = l .travel .sound .span-least
+  span-least = l .shaft .sound .span-least
 
   pub asked-lt : (v : ℤ) (relative : Bool) → asked a v relative < rulesOn a .span .0
   unfolding asked
@@ -68,7 +68,7 @@ module _ (a : Axis) (l : Limits a) where
   pub put-is : (v : ℤ) (relative : Bool) → positionOf (presetted a v relative) ≡ asked a v relative
   unfolding positionOf positionAt presetted unshiftedOf rulesOn
   put-is v relative =
-      let u = unshifted (rulesOn a) (a .travel) in
+      let u = unshifted (rulesOn a) (a .shaft) in
       let n = asked a v relative in
       modulo-is (pos u +ℤ (pos n -ℤ pos u)) 0 0 (asked-lt v relative) (omega (arith, add-is (pos u) (pos n -ℤ pos u), diff-is (pos n) (pos u)))
 
@@ -93,7 +93,7 @@ module _ (a : Axis) (l : Limits a) where
   presetted-kept v relative h =
       record {
         none = l .none;
-        travel = l .travel;
+        shaft = l .shaft;
         offset = apart-lt (asked a v relative) (unshiftedOf a) (rulesOn a .span .0) (asked-lt v relative) unshifted-lt;
         preset = h;
         stored = l .stored;
@@ -107,16 +107,16 @@ module _ (a : Axis) (l : Limits a) where
   unfolding store rulesOn
   store-kept v =
       by-number a (holding a v) (presetRefusal a v) l
-      (λ e. record { none = l .none; travel = l .travel; offset = l .offset; preset = l .preset; stored = value-lt v e })
+      (λ e. record { none = l .none; shaft = l .shaft; offset = l .offset; preset = l .preset; stored = value-lt v e })
 
 -- ---- the start: what is started is acceptable, and what is refused is no axis
-pub begun-kept : (n : Nameplate) (p : Parameters) (raw : ℕ) → refusalOn n p ≡ 0 → raw < capacityOf n → Limits (fresh n p (travelStarted (rulesOf n (fieldsOf p)) raw))
+pub begun-kept : (n : Nameplate) (p : Parameters) (raw : ℕ) → refusalOn n p ≡ 0 → raw < capacityOf n → Limits (fresh n p (shaftStarted (rulesOf n (fieldsOf p)) raw))
 unfolding rulesOn rulesOf
 begun-kept n p raw e h =
     let s = taken-sound n p e in
     record {
       none = e;
-      travel = travel-kept (rulesOf n (fieldsOf p)) raw s h;
+      shaft = shaft-started (rulesOf n (fieldsOf p)) raw s h;
       offset = s .span-least;
       preset = s .span-least;
       stored = s .span-least;
@@ -138,7 +138,7 @@ module _ (n : Nameplate) (p : Parameters) (raw later : ℕ) where
       outside-nowhere : (b : Bool) → acceptable (fresh n p nowhere) ≡ b → b ≡ false
       outside-nowhere false e = refl
       outside-nowhere true e =
-          let i = limits-of (fresh n p nowhere) e .travel in
+          let i = limits-of (fresh n p nowhere) e .shaft in
           nowhere-out (rulesOn (fresh n p nowhere)) true (inside-is (rulesOn (fresh n p nowhere)) nowhere i)
 
 module _ (n : Nameplate) (p : Parameters) (s t : ℕ) where

@@ -10,19 +10,19 @@ use Rattle.encoder.specs.declared.quantity.Units.{Units}
 use Rattle.encoder.specs.declared.effect.InForce.{InForce}
 use Rattle.encoder.specs.declared.effect.Effect.{Effect}
 use Rattle.encoder.specs.declared.effect.Effect.the-variants.{Refused as NotInForce}
-use Rattle.travel.specs.declared.Reported.{Reported}
-use Rattle.travel.specs.declared.Reported.the-variants.{At, Refused}
-use Rattle.travel.specs.Travel.{reportedAt}
-use Rattle.travel.proofs.TravelLaws.{reported-is as at-is}
+use Rattle.axis_shaft.specs.declared.Reported.{Reported}
+use Rattle.axis_shaft.specs.declared.Reported.the-variants.{At, Refused}
+use Rattle.axis_shaft.specs.Rules.{reportedAt}
+use Rattle.axis_shaft.proofs.ShaftLaws.{reported-is as at-is}
 use Rattle.axis.specs.declared.Axis.{Axis}
-use Rattle.axis.specs.Axis.{inForceOn, Ready, unshiftedOf, positionOf, reported}
+use Rattle.axis.specs.Limits.{inForceOn, Ready, unshiftedOf, positionOf, reported}
 use Rattle.encoder.proofs.RefusalLaws.{refused-is}
 use Rattle.axis.proofs.AxisLaws.{Limits, limits-of, limits-none, ready-of, outside-of, stands-none, offset-fits}
 
 -- ---- the answer is that of the travel, whose limits are among those of the axis
-pub ready-reported : (a : Axis) (f : InForce) (v : Reported) → Ready a f → v ≡ reportedAt f (toZ w64 (ofZ w64 (a .offset))) (a .travel) → v ≡ reported a
+pub ready-reported : (a : Axis) (f : InForce) (v : Reported) → Ready a f → v ≡ reportedAt f (toZ w64 (ofZ w64 (a .offset))) (a .shaft) → v ≡ reported a
 unfolding reported positionOf unshiftedOf
-ready-reported a f v r v-is = v-is ∙ rw (reads (offset-fits a f r), at-is f (a .travel) (r .travel) (a .offset), stands-none a f r, r .is)
+ready-reported a f v r v-is = v-is ∙ rw (reads (offset-fits a f r), at-is f (a .shaft) (r .shaft) (a .offset), stands-none a f r, r .is)
 
 pub reported-no : (a : Axis) (e : Effect) (n : ℕ) → e ≡ NotInForce n → e ≡ inForceOn a → Refused n ≡ reported a
 unfolding reported

@@ -13,48 +13,48 @@ use Rattle.encoder.specs.declared.effect.Effect.the-variants.{Taken, Refused as
 use Rattle.sensor.specs.declared.Reading.{Reading}
 use Rattle.sensor.specs.declared.Reading.the-variants.{Number, Refused as NotRead}
 use Rattle.encoder.specs.Refusal.{wrongTurn, when, _before_, answer}
-use Rattle.sensor.specs.Reading.{rawOf, stepRefusal, numbered}
-use Rattle.encoder.specs.Nameplate.{capacityOf}
-use Rattle.encoder.specs.Parameters.{fieldsOf, refusalOn}
-use Rattle.encoder.specs.InForce.{rulesOf, inForce}
+use Rattle.sensor.specs.Raw.{rawOf, stepRefusal, numbered}
+use Rattle.encoder.specs.Plate.{capacityOf}
+use Rattle.encoder.specs.Rows.{fieldsOf, refusalOn}
+use Rattle.encoder.specs.Force.{rulesOf, inForce}
 use Rattle.encoder.proofs.RefusalLaws.{refused-is, before-first}
 use Rattle.sensor.proofs.ReadingLaws.{reading-taken, reading-refused, reading-lt}
 use Rattle.encoder.proofs.ForceLaws.{in-force-taken, in-force-refused}
 use Rattle.encoder.proofs.SoundLaws.{taken-sound}
-use Rattle.travel.specs.declared.Travel.{Travel}
-use Rattle.travel.specs.declared.Moved.{Moved}
-use Rattle.travel.specs.declared.Moved.the-variants.{To, Refused as NotMoved}
-use Rattle.travel.specs.Travel.{nowhere, started, moveRefusal, movedTo, begun, travelRefusal, moved}
-use Rattle.travel.proofs.SensorLaws.{raw-lt}
-use Rattle.travel.proofs.TravelLaws.{moved-kept, read-refusal, to-taken, to-refused, begun-by}
+use Rattle.axis_shaft.specs.declared.Shaft.{Shaft}
+use Rattle.axis_shaft.specs.declared.Moved.{Moved}
+use Rattle.axis_shaft.specs.declared.Moved.the-variants.{To, Refused as NotMoved}
+use Rattle.axis_shaft.specs.Rules.{nowhere, started, moveRefusal, movedTo, begun, shaftRefusal, moved}
+use Rattle.axis_shaft.proofs.SensorLaws.{raw-lt}
+use Rattle.axis_shaft.proofs.ShaftLaws.{moved-kept, read-refusal, to-taken, to-refused, begun-by}
 use Rattle.axis.specs.declared.Axis.{Axis}
 use Rattle.axis.specs.declared.Next.{Next}
-use Rattle.axis.specs.Axis.{rulesOn, axisRefusal, inForceOn, Ready}
-use Rattle.axis.specs.Reading.{accepted, refused, next, fresh, begunBy, startRefusal, start, startRawRefusal, startRaw, travelled, atRaw, readRawRefusal, readRaw, readRefusal, read}
+use Rattle.axis.specs.Limits.{rulesOn, axisRefusal, inForceOn, Ready}
+use Rattle.axis.specs.Reading.{accepted, refused, next, fresh, begunBy, startRefusal, start, startRawRefusal, startRaw, withShaft, atRaw, readRawRefusal, readRaw, readRefusal, read}
 use Rattle.axis.proofs.AxisLaws.{Limits, limits-none, ready-of, outside-answer, stands-none}
 
 -- ---- a raw number
 module _ (a : Axis) (f : InForce) (r : Ready a f) (raw : ℕ) (m : Moved) (x : Next) where
-  pub take-to : (k : Travel) → m ≡ To k → x ≡ accepted (travelled a k) → m ≡ moved f (a .travel) raw → x ≡ readRaw a raw
+  pub take-to : (k : Shaft) → m ≡ To k → x ≡ accepted (withShaft a k) → m ≡ moved f (a .shaft) raw → x ≡ readRaw a raw
   unfolding readRaw readRawRefusal atRaw moved
-  take-to k h w m-is = let i = to-taken m (movedTo f (a .travel) raw) k (travelRefusal f (a .travel) raw) h m-is in w ∙ rw (stands-none a f r, ← r .is, i .0, i .1)
+  take-to k h w m-is = let i = to-taken m (movedTo f (a .shaft) raw) k (shaftRefusal f (a .shaft) raw) h m-is in w ∙ rw (stands-none a f r, ← r .is, i .0, i .1)
 
-  pub take-no : (n : ℕ) → m ≡ NotMoved n → x ≡ refused a n → m ≡ moved f (a .travel) raw → x ≡ readRaw a raw
+  pub take-no : (n : ℕ) → m ≡ NotMoved n → x ≡ refused a n → m ≡ moved f (a .shaft) raw → x ≡ readRaw a raw
   unfolding readRaw readRawRefusal moved
   take-no n h w m-is =
-      let i = to-refused m (movedTo f (a .travel) raw) (travelRefusal f (a .travel) raw) n h m-is in
+      let i = to-refused m (movedTo f (a .shaft) raw) (shaftRefusal f (a .shaft) raw) n h m-is in
       w ∙ rw (stands-none a f r, ← r .is, i .0) (sym (refused-is (refused a) _ n (i .1)))
 
 pub ruleset raws = (ready-of, take-to, take-no, outside-answer)
 
 -- and the axis that it moves keeps its limits
-pub travelled-kept : (a : Axis) → Limits a → (raw : ℕ) → travelRefusal (rulesOn a) (a .travel) raw ≡ 0 → Limits (atRaw a raw)
+pub at-raw-kept : (a : Axis) → Limits a → (raw : ℕ) → shaftRefusal (rulesOn a) (a .shaft) raw ≡ 0 → Limits (atRaw a raw)
 unfolding atRaw rulesOn
-travelled-kept a l raw e =
-    let h = raw-lt (rulesOn a) (a .travel .last .0) raw (sym (read-refusal (rulesOn a) (a .travel) (l .travel) raw) ∙ e) in
+at-raw-kept a l raw e =
+    let h = raw-lt (rulesOn a) (a .shaft .last .0) raw (sym (read-refusal (rulesOn a) (a .shaft) (l .shaft) raw) ∙ e) in
     record {
       none = l .none;
-      travel = moved-kept (rulesOn a) (a .travel) raw (l .travel) h;
+      shaft = moved-kept (rulesOn a) (a .shaft) raw (l .shaft) h;
       offset = l .offset;
       preset = l .preset;
       stored = l .stored;
@@ -62,11 +62,11 @@ travelled-kept a l raw e =
 
 -- a raw number by the refusal of its move, on an axis within its limits
 module _ (a : Axis) (l : Limits a) (raw : ℕ) where
-  raw-refusal : readRawRefusal a raw ≡ moveRefusal (rulesOn a) (a .travel .last .0) raw
+  raw-refusal : readRawRefusal a raw ≡ moveRefusal (rulesOn a) (a .shaft .last .0) raw
   unfolding readRawRefusal
-  raw-refusal = rw (limits-none a l) (read-refusal (rulesOn a) (a .travel) (l .travel) raw)
+  raw-refusal = rw (limits-none a l) (read-refusal (rulesOn a) (a .shaft) (l .shaft) raw)
 
-  pub singly : (n : ℕ) → moveRefusal (rulesOn a) (a .travel .last .0) raw ≡ n → readRaw a raw ≡ next a n (atRaw a raw)
+  pub singly : (n : ℕ) → moveRefusal (rulesOn a) (a .shaft .last .0) raw ≡ n → readRaw a raw ≡ next a n (atRaw a raw)
   unfolding readRaw
   singly n e = rw (raw-refusal, e)
 
@@ -81,13 +81,13 @@ module _ (a : Axis) (s t : ℕ) (q : Reading) (x : Next) where
   unfolding read readRefusal
   read-no e f n e-is h g q-is w =
       let i = reading-refused (a .nameplate) s t q n g q-is in
-      w ∙ rw (stands-none a f (ready-of a e f h e-is), i .0, before-first n (travelRefusal (rulesOn a) (a .travel) (rawOf (a .nameplate) s t)) (i .1)) (sym (refused-is (refused a) _ n (i .1)))
+      w ∙ rw (stands-none a f (ready-of a e f h e-is), i .0, before-first n (shaftRefusal (rulesOn a) (a .shaft) (rawOf (a .nameplate) s t)) (i .1)) (sym (refused-is (refused a) _ n (i .1)))
 
 pub ruleset readings = (read-number, read-no, outside-answer)
 
 -- ---- the start
 module _ (n : Nameplate) (p : Parameters) (m : Moved) (x : Next) where
-  pub begun-at : (k : Travel) → m ≡ To k → x ≡ refused (fresh n p k) 0 → x ≡ begunBy n p m
+  pub begun-at : (k : Shaft) → m ≡ To k → x ≡ refused (fresh n p k) 0 → x ≡ begunBy n p m
   begun-at k h w = rw h w
 
   pub begun-not : (j : ℕ) → m ≡ NotMoved j → x ≡ refused (fresh n p nowhere) j → x ≡ begunBy n p m

@@ -1,3 +1,3 @@
-pub mod Axis
+pub mod Limits
 pub mod Reading
 pub mod Preset

@@ -5,10 +5,10 @@ use Prim.Native.Nat.{ℕ}
 use lib.IntN.{ℤ, pos, _+ℤ_, _-ℤ_}
 use Rattle.integer.specs.Modulus.{_modulo_}
 use Rattle.encoder.specs.Refusal.{_before_}
-use Rattle.shift.specs.Shift.{valueRefusal}
+use Rattle.axis_offset.specs.Offset.{valueRefusal}
 use Rattle.axis.specs.declared.Axis.{Axis}
 use Rattle.axis.specs.declared.Next.{Next}
-use Rattle.axis.specs.Axis.{rulesOn, axisRefusal, unshiftedOf, positionOf}
+use Rattle.axis.specs.Limits.{rulesOn, axisRefusal, unshiftedOf, positionOf}
 use Rattle.axis.specs.Reading.{next}
 
 -- 16, 12, 11
@@ -22,7 +22,7 @@ asked a v relative = cond relative ((pos (positionOf a) +ℤ v) modulo rulesOn a
 -- the offset becomes new position − unshifted; the last v is remembered
 abbrev pub shifted : Axis → ℤ → ℤ → Axis
 shifted a offset v =
-    record { nameplate = a .nameplate; parameters = a .parameters; travel = a .travel; offset = offset; preset = v; stored = a .stored }
+    record { nameplate = a .nameplate; parameters = a .parameters; shaft = a .shaft; offset = offset; preset = v; stored = a .stored }
 
 unfoldable pub presetted : Axis → ℤ → Bool → Axis
 presetted a v relative = shifted a (pos (asked a v relative) -ℤ pos (unshiftedOf a)) v
@@ -33,7 +33,7 @@ preset a v relative = next a (presetRefusal a v) (presetted a v relative)
 -- the held preset value is set by a call that makes no preset
 abbrev pub holding : Axis → ℤ → Axis
 holding a v =
-    record { nameplate = a .nameplate; parameters = a .parameters; travel = a .travel; offset = a .offset; preset = a .preset; stored = v }
+    record { nameplate = a .nameplate; parameters = a .parameters; shaft = a .shaft; offset = a .offset; preset = a .preset; stored = v }
 
 unfoldable pub store : Axis → ℤ → Next
 store a v = next a (presetRefusal a v) (holding a v)

@@ -6,17 +6,17 @@ use lib.IntN.{pos}
 use Rattle.encoder.specs.declared.nameplate.Nameplate.{Nameplate}
 use Rattle.encoder.specs.declared.parameters.Parameters.{Parameters}
 use Rattle.encoder.specs.Refusal.{wrongTurn, when, _before_, answer}
-use Rattle.encoder.specs.Nameplate.{capacityOf}
-use Rattle.sensor.specs.Reading.{rawOf, stepRefusal}
-use Rattle.encoder.specs.Parameters.{fieldsOf, refusalOn}
-use Rattle.encoder.specs.InForce.{rulesOf}
-use Rattle.travel.specs.declared.Travel.{Travel}
-use Rattle.travel.specs.declared.Moved.{Moved}
-use Rattle.travel.specs.declared.Moved.the-variants.{To, Refused as NotMoved}
-use Rattle.travel.specs.Travel.{nowhere, started, travelRefusal, movedTo}
+use Rattle.encoder.specs.Plate.{capacityOf}
+use Rattle.sensor.specs.Raw.{rawOf, stepRefusal}
+use Rattle.encoder.specs.Rows.{fieldsOf, refusalOn}
+use Rattle.encoder.specs.Force.{rulesOf}
+use Rattle.axis_shaft.specs.declared.Shaft.{Shaft}
+use Rattle.axis_shaft.specs.declared.Moved.{Moved}
+use Rattle.axis_shaft.specs.declared.Moved.the-variants.{To, Refused as NotMoved}
+use Rattle.axis_shaft.specs.Rules.{nowhere, started, shaftRefusal, movedTo}
 use Rattle.axis.specs.declared.Axis.{Axis}
 use Rattle.axis.specs.declared.Next.{Next}
-use Rattle.axis.specs.Axis.{rulesOn, axisRefusal}
+use Rattle.axis.specs.Limits.{rulesOn, axisRefusal}
 
 abbrev pub accepted : Axis → Next
 accepted a = record { axis = a; refusal = 0 }
@@ -29,8 +29,8 @@ abbrev pub next : Axis → ℕ → Axis → Next
 next a n b = answer (refused a) (accepted b) n
 
 -- 2. an axis of a plate and parameters: no offset yet, and no preset
-abbrev pub fresh : Nameplate → Parameters → Travel → Axis
-fresh n p k = record { nameplate = n; parameters = p; travel = k; offset = pos 0; preset = pos 0; stored = pos 0 }
+abbrev pub fresh : Nameplate → Parameters → Shaft → Axis
+fresh n p k = record { nameplate = n; parameters = p; shaft = k; offset = pos 0; preset = pos 0; stored = pos 0 }
 
 -- by where the first reading leads; what a refused start leaves is no started axis: every call on it gets 16
 abbrev pub begunBy : Nameplate → Parameters → Moved → Next
@@ -52,16 +52,16 @@ unfoldable pub startRaw : Nameplate → Parameters → ℕ → Next
 startRaw n p raw = next (fresh n p nowhere) (startRawRefusal n p raw) (fresh n p (started (rulesOf n (fieldsOf p)) raw))
 
 -- 3. an axis that has moved
-abbrev pub travelled : Axis → Travel → Axis
-travelled a k =
-    record { nameplate = a .nameplate; parameters = a .parameters; travel = k; offset = a .offset; preset = a .preset; stored = a .stored }
+abbrev pub withShaft : Axis → Shaft → Axis
+withShaft a k =
+    record { nameplate = a .nameplate; parameters = a .parameters; shaft = k; offset = a .offset; preset = a .preset; stored = a .stored }
 
 unfoldable pub atRaw : Axis → ℕ → Axis
-atRaw a raw = travelled a (movedTo (rulesOn a) (a .travel) raw)
+atRaw a raw = withShaft a (movedTo (rulesOn a) (a .shaft) raw)
 
 -- a raw number: 16, 9, 10 (the travel's own 16 lies behind that of the axis)
 unfoldable pub readRawRefusal : Axis → ℕ → ℕ
-readRawRefusal a raw = axisRefusal a before travelRefusal (rulesOn a) (a .travel) raw
+readRawRefusal a raw = axisRefusal a before shaftRefusal (rulesOn a) (a .shaft) raw
 
 unfoldable pub readRaw : Axis → ℕ → Next
 readRaw a raw = next a (readRawRefusal a raw) (atRaw a raw)
@@ -69,7 +69,7 @@ readRaw a raw = next a (readRawRefusal a raw) (atRaw a raw)
 -- step s and turn t: 16, 8, 9, 10
 unfoldable pub readRefusal : Axis → ℕ → ℕ → ℕ
 readRefusal a s t =
-    axisRefusal a before stepRefusal (a .nameplate) s t before travelRefusal (rulesOn a) (a .travel) (rawOf (a .nameplate) s t)
+    axisRefusal a before stepRefusal (a .nameplate) s t before shaftRefusal (rulesOn a) (a .shaft) (rawOf (a .nameplate) s t)
 
 unfoldable pub read : Axis → ℕ → ℕ → Next
 read a s t = next a (readRefusal a s t) (atRaw a (rawOf (a .nameplate) s t))

@@ -5,20 +5,20 @@ mod preset;
 mod reading;
 
 ghost use mathlib.Core.Path.{_≡_};
-ghost use Rattle.axis.specs.Axis.{inForceOn};
+ghost use Rattle.axis.specs.Limits.{inForceOn};
 use encoder::effect::Effect;
 use encoder::effect::in_force;
 use encoder::nameplate::Nameplate;
 use encoder::parameters::Parameters;
 use encoder::refusal;
 use ring::between;
-use travel::Travel;
+use axis_shaft::Shaft;
 
 pub struct Axis {
     pub nameplate: Nameplate,
     pub parameters: Parameters,
     // place and last reading
-    pub travel: Travel,
+    pub shaft: Shaft,
     // what presets have added to the position
     pub offset: i64,
     // the last preset
@@ -40,14 +40,14 @@ impl Axis {
     {
         let plate = self.nameplate;
         let parameters = self.parameters;
-        let travel = self.travel;
+        let shaft = self.shaft;
         match in_force(plate, parameters) {
             Effect::Taken(rules) => {
                 let span = rules.span.0;
                 let offset = between(self.offset, span);
                 let preset = between(self.preset, span);
                 let stored = between(self.stored, span);
-                if travel.inside(rules) & offset & preset & stored {
+                if shaft.inside(rules) & offset & preset & stored {
                     return Effect::Taken(rules);
                 }
                 Effect::Refused(refusal::NO_AXIS)

@@ -1,15 +1,15 @@
 // Presets, and the held preset value (document 01, "The axis", rule 6). Which value is refused and what offset a preset leaves is the crate
 // shift's.
 ghost use mathlib.Core.Path.{_≡_};
-ghost use Rattle.axis.specs.Axis.{Ready};
+ghost use Rattle.axis.specs.Limits.{Ready};
 ghost use Rattle.axis.specs.Preset.{preset, store};
 use crate::Axis;
 use crate::Next;
 use encoder::effect::Effect;
 use encoder::effect::InForce;
-use shift::offset_by;
-use shift::value_refusal;
-use travel::Reported;
+use axis_offset::offset_by;
+use axis_offset::value_refusal;
+use axis_shaft::Reported;
 
 impl Axis {
     // The position becomes the value, or is moved by it where the preset is relative.
@@ -29,12 +29,12 @@ impl Axis {
         ensures { λ r. ⌜ r ≡ preset self value relative ⌝ }
     {
         let mut axis = self;
-        let travel = axis.travel;
+        let shaft = axis.shaft;
         let n = value_refusal(rules, value);
         if n != 0 {
             return Next { axis, refusal: n };
         }
-        match travel.reported(rules, axis.offset) {
+        match shaft.reported(rules, axis.offset) {
             Reported::At {
                 position,
                 unshifted,

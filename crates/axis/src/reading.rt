@@ -11,8 +11,8 @@ use encoder::quantity::Steps;
 use encoder::quantity::Turns;
 use sensor::Reading;
 use sensor::raw_number;
-use travel::Moved;
-use travel::Travel;
+use axis_shaft::Moved;
+use axis_shaft::Shaft;
 
 impl Axis {
     // From a first reading. What a refused start leaves gets 16 from every call.
@@ -21,7 +21,7 @@ impl Axis {
     {
         match in_force(plate, parameters) {
             Effect::Taken(rules) => match raw_number(plate, step, turn) {
-                Reading::Number(raw) => Axis::begun(plate, parameters, Travel::begin(rules, raw)),
+                Reading::Number(raw) => Axis::begun(plate, parameters, Shaft::begin(rules, raw)),
                 Reading::Refused(n) => Axis::begun(plate, parameters, Moved::Refused(n)),
             },
             Effect::Refused(n) => Axis::begun(plate, parameters, Moved::Refused(n)),
@@ -33,7 +33,7 @@ impl Axis {
         ensures { λ r. ⌜ r ≡ startRaw plate parameters raw ⌝ }
     {
         match in_force(plate, parameters) {
-            Effect::Taken(rules) => Axis::begun(plate, parameters, Travel::begin(rules, raw)),
+            Effect::Taken(rules) => Axis::begun(plate, parameters, Shaft::begin(rules, raw)),
             Effect::Refused(n) => Axis::begun(plate, parameters, Moved::Refused(n)),
         }
     }
@@ -43,19 +43,19 @@ impl Axis {
         ensures { λ r. ⌜ r ≡ begunBy plate parameters first ⌝ }
     {
         match first {
-            Moved::To(travel) => Axis::fresh(plate, parameters, travel, 0),
-            Moved::Refused(n) => Axis::fresh(plate, parameters, Travel::NOWHERE, n),
+            Moved::To(shaft) => Axis::fresh(plate, parameters, shaft, 0),
+            Moved::Refused(n) => Axis::fresh(plate, parameters, Shaft::NOWHERE, n),
         }
     }
 
     // An axis without offset and presets, beside the number of the refusal.
-    fn fresh(nameplate: Nameplate, parameters: Parameters, travel: Travel, refusal: u8) -> Next
-        ensures { λ r. ⌜ r ≡ refused (fresh nameplate parameters travel) refusal ⌝ }
+    fn fresh(nameplate: Nameplate, parameters: Parameters, shaft: Shaft, refusal: u8) -> Next
+        ensures { λ r. ⌜ r ≡ refused (fresh nameplate parameters shaft) refusal ⌝ }
     {
         let axis = Axis {
             nameplate,
             parameters,
-            travel,
+            shaft,
             offset: 0,
             preset: 0,
             stored: 0,
@@ -87,11 +87,11 @@ impl Axis {
         ensures { λ r. ⌜ r ≡ readRaw self raw ⌝ }
     {
         let mut axis = self;
-        let travel = axis.travel;
+        let shaft = axis.shaft;
         match axis.rules() {
-            Effect::Taken(rules) => match travel.moved(rules, raw) {
+            Effect::Taken(rules) => match shaft.moved(rules, raw) {
                 Moved::To(here) => {
-                    axis.travel = here;
+                    axis.shaft = here;
                     Next { axis, refusal: 0 }
                 }
                 Moved::Refused(n) => Next { axis, refusal: n },

@@ -14,15 +14,15 @@ use mir.Val.{Fits}
 use Rattle.bytes.specs.Bytes.{indexAfter, indexOf, slice}
 use Rattle.integer.specs.Text.{over}
 use Rattle.integer.proofs.Text.{part-over, over-again}
-use Rattle.forms.specs.declared.Form.{Form}
-use Rattle.forms.specs.Form.{form}
-use Rattle.answers.specs.declared.Answer.{Answer}
-use Rattle.answers.specs.declared.Line.{Line}
-use Rattle.answers.specs.Answer.{text, line}
-use Rattle.answers.proofs.LineLaws.{line-text, line-in, line-cut}
-use Rattle.replies.specs.declared.State.{State}
-use Rattle.replies.specs.declared.Reply.{Reply}
-use Rattle.replies.specs.State.{empty, reply}
+use Rattle.axislog_forms.specs.declared.Form.{Form}
+use Rattle.axislog_forms.specs.Line.{form}
+use Rattle.axislog_answers.specs.declared.Answer.{Answer}
+use Rattle.axislog_answers.specs.declared.Line.{Line}
+use Rattle.axislog_answers.specs.Text.{text, line}
+use Rattle.axislog_answers.proofs.LineLaws.{line-text, line-in, line-cut}
+use Rattle.axislog_state.specs.declared.State.{State}
+use Rattle.axislog_state.specs.declared.Reply.{Reply}
+use Rattle.axislog_state.specs.Forms.{empty, reply}
 use Rattle.axislog_core.specs.Log.{joined, lines, answersFrom, answers}
 use Rattle.axislog_core.proofs.RoomLaws.{answers-room}
 

@@ -7,26 +7,26 @@ use Prim.Native.Nat.{ℕ, suc, _+_, _*_, _-_, _≤_}
 use native.Mathlib.Omega.{arith}
 use lib.Dec.{eqb}
 use lib.ListN.{length, length-append}
-use Rattle.forms.specs.declared.Form.the-variants.{Nothing}
-use Rattle.forms.specs.Form.{form}
-use Rattle.forms.proofs.ShortLaws.{form-empty, form-one}
-use Rattle.answers.specs.declared.Answer.{Answer}
-use Rattle.answers.specs.declared.Answer.the-variants.{Ready, At, Refused}
-use Rattle.answers.specs.Answer.{decimalBelow, decimal, text, shown}
-use Rattle.answers.proofs.DecimalLaws.{decimal-long}
-use Rattle.replies.specs.declared.State.{State}
-use Rattle.replies.specs.State.{empty, reply}
+use Rattle.axislog_forms.specs.declared.Form.the-variants.{Nothing}
+use Rattle.axislog_forms.specs.Line.{form}
+use Rattle.axislog_forms.proofs.ShortLaws.{form-empty, form-one}
+use Rattle.axislog_answers.specs.declared.Answer.{Answer}
+use Rattle.axislog_answers.specs.declared.Answer.the-variants.{Ready, At, Refused}
+use Rattle.axislog_answers.specs.Text.{decimalBelow, decimal, text, numberForm}
+use Rattle.axislog_answers.proofs.DecimalLaws.{decimal-long}
+use Rattle.axislog_state.specs.declared.State.{State}
+use Rattle.axislog_state.specs.Forms.{empty, reply}
 use Rattle.axislog_core.specs.Log.{joined, lines, answersFrom, answers}
 
 -- ---- a line
 text-long : (a : Answer) → length (text a) ≤ 21
-unfolding text shown
+unfolding text numberForm
 text-long Ready = omega arith
 text-long (At n) = rw (length-append, length-append) (omega (arith, decimal-long n))
 text-long (Refused n) = rw (length-append, length-append) (omega (arith, decimal-long n))
 
 none-long : (s : State) → length (text (reply s Nothing .answer)) ≡ 13
-unfolding reply text shown decimal decimalBelow
+unfolding reply text numberForm decimal decimalBelow
 none-long s = refl
 
 -- what a line costs at least: an octet of it, or its newline

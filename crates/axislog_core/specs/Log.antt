@@ -7,10 +7,10 @@ use lib.Dec.{eqb, ltb}
 use lib.ListN.{length}
 use Rattle.integer.specs.Text.{over}
 use Rattle.encoder.specs.Refusal.{noForm, wrongBuffer, when, _before_, answer}
-use Rattle.forms.specs.Form.{form}
-use Rattle.answers.specs.Answer.{text}
-use Rattle.replies.specs.declared.State.{State}
-use Rattle.replies.specs.State.{empty, reply}
+use Rattle.axislog_forms.specs.Line.{form}
+use Rattle.axislog_answers.specs.Text.{text}
+use Rattle.axislog_state.specs.declared.State.{State}
+use Rattle.axislog_state.specs.Forms.{empty, reply}
 use Rattle.axislog_core.specs.declared.Outcome.{Outcome}
 use Rattle.axislog_core.specs.declared.Outcome.the-variants.{Written, Refused}
 

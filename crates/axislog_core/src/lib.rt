@@ -4,15 +4,15 @@ ghost use mathlib.Core.List.{_++_};
 ghost use Prim.Native.Nat.{_+_, _≤_};
 ghost use lib.ListN.{length, take};
 ghost use Rattle.integer.specs.Text.{over};
-ghost use Rattle.answers.specs.Answer.{text};
+ghost use Rattle.axislog_answers.specs.Text.{text};
 ghost use Rattle.axislog_core.specs.Log.{answers, callRefusal, outcome, written};
-use answers::Answer;
+use axislog_answers::Answer;
 use bytes::scan::find;
 use encoder::refusal;
 use encoder::refusal::first;
 use encoder::refusal::when;
-use forms::parse;
-use replies::State;
+use axislog_forms::parse;
+use axislog_state::State;
 
 // The octets of the longest log that is answered.
 pub const INPUT: usize = 60_000;

@@ -8,14 +8,14 @@ use Prim.Native.Nat.{ℕ, zero, suc}
 use native.Mathlib.Omega.{arith}
 use Rattle.integer.specs.Bits.{bit}
 use Rattle.axis.specs.declared.Axis.{Axis}
-use Rattle.axis.specs.Axis.{rulesOn}
-use Rattle.link.specs.declared.Link.{Link}
-use Rattle.link.specs.Class4.{link}
-use Rattle.link.proofs.Acknowledging.{gone}
+use Rattle.axis.specs.Limits.{rulesOn}
+use Rattle.cyclic_link.specs.declared.Link.{Link}
+use Rattle.cyclic_link.specs.Class4.{link}
+use Rattle.cyclic_link.proofs.Acknowledging.{gone}
 use Rattle.cyclic.specs.declared.Cycled.{Cycled}
 use Rattle.cyclic.specs.Raw.{faultyAt}
 use Rattle.cyclic.specs.Class4.{stw2, stw, counted}
-use Rattle.cyclic.specs.Cycle.{four, cycleRefusal, linkAfter, axisAfter, linkLeft, cycled, cycle}
+use Rattle.cyclic.specs.Cycle.{class4, cycleRefusal, linkAfter, axisAfter, linkLeft, cycled, cycle}
 use Rattle.cyclic.proofs.CycleKept.{after-same}
 
 -- ---- a cycle that is not refused leaves these
@@ -32,7 +32,7 @@ cycle-is a k raw output input e = by-number a _ k _ (cycleRefusal a output input
 -- ---- the theorem: a and b are the axis at the first and at the second cycle, so that other calls may stand between the two
 pub acknowledging : (a b : Axis) (k : Link) (raw₁ raw₂ : ℕ) (out₁ out₂ in₁ in₂ : List ℕ) (c d : Cycled)
     → c ≡ cycle a k raw₁ out₁ in₁ → d ≡ cycle b (c .link) raw₂ out₂ in₂
-    → four (a .parameters) ≡ true → four (b .parameters) ≡ true → c .refusal ≡ 0 → d .refusal ≡ 0
+    → class4 (a .parameters) ≡ true → class4 (b .parameters) ≡ true → c .refusal ≡ 0 → d .refusal ≡ 0
     → bit 10 (stw2 out₁) ≡ true → bit 15 (stw out₁) ≡ true → bit 10 (stw2 out₂) ≡ true → bit 15 (stw out₂) ≡ false
     → faultyAt b raw₂ ≡ false
     → d .link .error ≡ false
@@ -44,6 +44,6 @@ acknowledging a b k raw₁ raw₂ out₁ out₂ in₁ in₂ c d c-is d-is class�
     rw (d-are, class₂, on₂, sound, link₁) (gone (rulesOn a) k (faultyAt a raw₁) (stw out₁) (stw out₂) up down)
 
 -- with nothing between them the second cycle's axis is the one that the first leaves, and of the same class
-pub at-once : (a : Axis) (k : Link) (raw : ℕ) (output input : List ℕ) → cycle a k raw output input .refusal ≡ 0 → four (a .parameters) ≡ true
-    → four (cycle a k raw output input .axis .parameters) ≡ true
+pub at-once : (a : Axis) (k : Link) (raw : ℕ) (output input : List ℕ) → cycle a k raw output input .refusal ≡ 0 → class4 (a .parameters) ≡ true
+    → class4 (cycle a k raw output input .axis .parameters) ≡ true
 at-once a k raw output input e class = rw (cycle-is a k raw output input e, after-same a k raw output .1) class

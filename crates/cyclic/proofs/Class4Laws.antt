@@ -10,10 +10,10 @@ use Rattle.integer.specs.Bits.{bit}
 use Rattle.integer.specs.Octets.{bigEndian}
 use Rattle.integer.proofs.Octets.{Octets, bigEndian-part}
 use Rattle.encoder.specs.declared.parameters.Fields.{Fields}
-use Rattle.encoder.specs.Parameters.{fieldsOf}
-use Rattle.axis.specs.Axis.{unshiftedOf, positionOf}
-use Rattle.link.specs.declared.Link.{Link}
-use Rattle.link.specs.Class4.{zsw}
+use Rattle.encoder.specs.Rows.{fieldsOf}
+use Rattle.axis.specs.Limits.{unshiftedOf, positionOf}
+use Rattle.cyclic_link.specs.declared.Link.{Link}
+use Rattle.cyclic_link.specs.Class4.{zsw}
 use Rattle.cyclic.specs.declared.standing.Standing.{Standing}
 use Rattle.cyclic.specs.Preset.{standing}
 use Rattle.cyclic.specs.Class4.{counted, xist1, words, input}
@@ -55,4 +55,4 @@ module _ (s : Standing) (s-is : s ≡ standing (s .axis)) where
     unfolding input
     filled-position t l-is = l-is ∙ rw (status-is, first-is, t, at-position)
 
-pub ruleset four = (counted-is, counted-none, xist1-unshifted, xist1-position, filled-error, filled-position)
+pub ruleset words4 = (counted-is, counted-none, xist1-unshifted, xist1-position, filled-error, filled-position)

@@ -9,19 +9,19 @@ use lib.IntN.{ℤ, natAbs}
 use Rattle.encoder.specs.declared.effect.InForce.{InForce}
 use Rattle.axis.specs.declared.Axis.{Axis}
 use Rattle.axis.specs.declared.Next.{Next}
-use Rattle.axis.specs.Axis.{rulesOn, Ready}
+use Rattle.axis.specs.Limits.{rulesOn, Ready}
 use Rattle.axis.specs.Reading.{next, atRaw, readRaw, readRawRefusal}
 use Rattle.axis.specs.Preset.{presetted}
 use Rattle.axis.proofs.AxisLaws.{Limits, limits-of, accepts}
 use Rattle.axis.proofs.LimitsKept.{raw-kept, presetted-kept}
-use Rattle.link.specs.declared.Link.{Link}
-use Rattle.link.specs.Reaction.{reaction}
-use Rattle.link.proofs.Possible.{possible}
+use Rattle.cyclic_link.specs.declared.Link.{Link}
+use Rattle.cyclic_link.specs.Classes.{reaction}
+use Rattle.cyclic_link.proofs.Possible.{possible}
 use Rattle.cyclic.specs.Raw.{faultyAt, takenAt}
 use Rattle.cyclic.specs.Preset.{presetBy}
 use Rattle.cyclic.specs.Class2.{wordOf, axis as axis2}
 use Rattle.cyclic.specs.Class4.{counted, axis as axis4}
-use Rattle.cyclic.specs.Cycle.{four, wordBy, cycleRefusal, axisAfter, cycled, cycle}
+use Rattle.cyclic.specs.Cycle.{class4, wordBy, cycleRefusal, axisAfter, cycled, cycle}
 
 -- ---- the axis that a cycle leaves, by the preset that it makes: of either class alike
 after-by : (class : Bool) (b : Axis) (k : Link) (faulty : Bool) (output : List ℕ)
@@ -31,10 +31,10 @@ unfolding axis2 axis4
 after-by true b k faulty output = refl
 after-by false b k faulty output = refl
 
-pub after-is : (a : Axis) (k : Link) (raw : ℕ) (output : List ℕ) → let b = takenAt a raw in let class = four (a .parameters) in
+pub after-is : (a : Axis) (k : Link) (raw : ℕ) (output : List ℕ) → let b = takenAt a raw in let class = class4 (a .parameters) in
     axisAfter a k raw output ≡ presetBy b (reaction class (rulesOn b) k (faultyAt a raw) (wordBy class output) (b .stored) .preset)
 unfolding axisAfter
-after-is a k raw output = after-by (four (a .parameters)) (takenAt a raw) k (faultyAt a raw) output
+after-is a k raw output = after-by (class4 (a .parameters)) (takenAt a raw) k (faultyAt a raw) output
 
 -- ---- nameplate and parameters
 abbrev pub Same : Axis → Axis → Type 0
@@ -56,7 +56,7 @@ preset-same a b v relative false s = s
 pub after-same : (a : Axis) (k : Link) (raw : ℕ) (output : List ℕ) → Same a (axisAfter a k raw output)
 unfolding takenAt
 after-same a k raw output =
-    let o = reaction (four (a .parameters)) (rulesOn (readRaw a raw .axis)) k (faultyAt a raw) (wordBy (four (a .parameters)) output) (readRaw a raw .axis .stored) .preset in
+    let o = reaction (class4 (a .parameters)) (rulesOn (readRaw a raw .axis)) k (faultyAt a raw) (wordBy (class4 (a .parameters)) output) (readRaw a raw .axis .stored) .preset in
     rw (after-is a k raw output) (preset-same a (readRaw a raw .axis) (o .value) (o .relative) (o .made) (read-same a raw))
 
 -- ---- the limits
@@ -70,8 +70,8 @@ unfolding takenAt
 after-kept a k raw output l =
     let b = readRaw a raw .axis in
     let m = raw-kept a l raw in
-    let o = reaction (four (a .parameters)) (rulesOn b) k (faultyAt a raw) (wordBy (four (a .parameters)) output) (b .stored) .preset in
-    let p = possible (four (a .parameters)) (rulesOn b) k (faultyAt a raw) (wordBy (four (a .parameters)) output) (b .stored) (m .stored) in
+    let o = reaction (class4 (a .parameters)) (rulesOn b) k (faultyAt a raw) (wordBy (class4 (a .parameters)) output) (b .stored) .preset in
+    let p = possible (class4 (a .parameters)) (rulesOn b) k (faultyAt a raw) (wordBy (class4 (a .parameters)) output) (b .stored) (m .stored) in
     rw (after-is a k raw output) (preset-by b (o .value) (o .relative) (o .made) m (p .below))
 
 by-number : (a b : Axis) (k j : Link) (n : ℕ) → Limits a → Limits b → Limits (cycled a k b j n .axis)
@@ -87,7 +87,7 @@ ready-by : (a b : Axis) (f : InForce) → Ready a f → Same a b → Limits b �
 unfolding rulesOn
 ready-by a b f r s l =
     let e : f ≡ rulesOn b = r .is ∙ rw (s .0, s .1) in
-    record { is = e; stands = accepts b l; travel = rw e (l .travel); offset = rw e (l .offset) }
+    record { is = e; stands = accepts b l; shaft = rw e (l .shaft); offset = rw e (l .offset) }
 
 module _ (a : Axis) (f : InForce) (r : Ready a f) where
   pub read-ready : (raw : ℕ) (x : Next) → x ≡ readRaw a raw → Ready (x .axis) f

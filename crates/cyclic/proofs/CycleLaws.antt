@@ -21,33 +21,33 @@ use Rattle.encoder.specs.declared.parameters.Fields.{Fields}
 use Rattle.encoder.specs.declared.effect.InForce.{InForce}
 use Rattle.encoder.specs.declared.effect.Effect.{Effect}
 use Rattle.encoder.specs.declared.effect.Effect.the-variants.{Refused}
-use Rattle.encoder.specs.Parameters.{fieldsOf}
+use Rattle.encoder.specs.Rows.{fieldsOf}
 use Rattle.encoder.proofs.PlateLaws.{and-split}
 use Rattle.encoder.proofs.RefusalLaws.{when-none}
 use Rattle.axis.specs.declared.Axis.{Axis}
 use Rattle.axis.specs.declared.Next.{Next}
-use Rattle.axis.specs.Axis.{Ready, inForceOn}
+use Rattle.axis.specs.Limits.{Ready, inForceOn}
 use Rattle.axis.specs.Reading.{readRaw}
 use Rattle.axis.proofs.AxisLaws.{limits-of, stands-none}
-use Rattle.link.specs.declared.Link.{Link}
-use Rattle.link.specs.declared.Reaction.{Reaction}
-use Rattle.link.specs.Class2 as Link2
-use Rattle.link.specs.Class4 as Link4
-use Rattle.link.specs.Reaction.{reaction, Possible}
-use Rattle.link.proofs.Possible.{possible}
+use Rattle.cyclic_link.specs.declared.Link.{Link}
+use Rattle.cyclic_link.specs.declared.Reaction.{Reaction}
+use Rattle.cyclic_link.specs.Class2 as Link2
+use Rattle.cyclic_link.specs.Class4 as Link4
+use Rattle.cyclic_link.specs.Classes.{reaction, Possible}
+use Rattle.cyclic_link.proofs.Possible.{possible}
 use Rattle.cyclic.specs.declared.Cycled.{Cycled}
 use Rattle.cyclic.specs.declared.standing.Standing.{Standing}
 use Rattle.cyclic.specs.Raw.{faultyAt, takenAt}
 use Rattle.cyclic.specs.Preset.{presetBy, standing}
 use Rattle.cyclic.specs.Class2 as Class2
 use Rattle.cyclic.specs.Class4 as Class4
-use Rattle.cyclic.specs.Cycle.{four, inputOctets, lengthRefusal, cycleRefusal, wordBy, inputBy, linkAfter, axisAfter, inputOf, linkLeft, inputLeft, done, refused, cycle, cycleInput}
+use Rattle.cyclic.specs.Cycle.{class4, inputOctets, lengthRefusal, cycleRefusal, wordBy, inputBy, linkAfter, axisAfter, inputOf, linkLeft, inputLeft, done, refused, cycle, cycleInput}
 use Rattle.cyclic.proofs.CycleKept.{read-ready, after-same, after-is}
 use Rattle.cyclic.proofs.Class4Laws.{at-position}
 
 -- ---- the class, and the lengths by it
-class-is : (p : Parameters) (g : Fields) → g ≡ fieldsOf p → four p ≡ g .four
-class-is p g e = ap (λ (h : Fields). h .four) (sym e)
+class-is : (p : Parameters) (g : Fields) → g ≡ fieldsOf p → class4 p ≡ g .class4
+class-is p g e = ap (λ (h : Fields). h .class4) (sym e)
 
 pub lengths : (class : Bool) (output input : ℕ) → lengthRefusal class output input ≡ 0 → (output ≡ 4) × (input ≡ inputOctets class)
 unfolding lengthRefusal
@@ -57,7 +57,7 @@ lengths class output input none =
 
 -- ---- the number of a cycle on an axis within its limits
 pub number-is : (a : Axis) (f : InForce) (g : Fields) (output input : List ℕ) (n : ℕ) → Ready a f → g ≡ fieldsOf (a .parameters)
-    → n ≡ lengthRefusal (g .four) (length output) (length input) → n ≡ cycleRefusal a output input
+    → n ≡ lengthRefusal (g .class4) (length output) (length input) → n ≡ cycleRefusal a output input
 unfolding cycleRefusal
 number-is a f g output input n r g-is n-is = n-is ∙ rw (stands-none a f r, class-is (a .parameters) g g-is)
 
@@ -81,22 +81,22 @@ unfolding Class2.input
 input-two class k w b l i t b-is long l-is = l-is ∙ rw (long, t, at-position b b-is)
 
 -- ---- a cycle that is run: x is the answer to its raw number, w its word, q what it makes of it, and b the axis that it leaves and where that stands
-module _ (a : Axis) (f : InForce) (r : Ready a f) (k : Link) (raw : ℕ) (output : List ℕ) (g : Fields) (g-is : g ≡ fieldsOf (a .parameters)) (x : Next) (x-is : x ≡ readRaw a raw) (w : ℕ) (w-is : w ≡ wordBy (g .four) output)
-    (q : Reaction) (q-is : q ≡ reaction (g .four) f k (not (eqb (x .refusal) 0)) w (toZ w64 (ofZ w64 (x .axis .stored)))) where
+module _ (a : Axis) (f : InForce) (r : Ready a f) (k : Link) (raw : ℕ) (output : List ℕ) (g : Fields) (g-is : g ≡ fieldsOf (a .parameters)) (x : Next) (x-is : x ≡ readRaw a raw) (w : ℕ) (w-is : w ≡ wordBy (g .class4) output)
+    (q : Reaction) (q-is : q ≡ reaction (g .class4) f k (not (eqb (x .refusal) 0)) w (toZ w64 (ofZ w64 (x .axis .stored)))) where
   at : Ready (x .axis) f
   at = read-ready a f r raw x x-is
 
   stored-lt : natAbs (x .axis .stored) < f .span .0
   stored-lt = rw (at .is) (limits-of (x .axis) (at .stands) .stored)
 
-  reads-back : q ≡ reaction (g .four) f k (not (eqb (x .refusal) 0)) w (x .axis .stored)
-  reads-back = q-is ∙ rw (reads (fits-abs {w = w64} (x .axis .stored) (omega (arith, stored-lt, at .travel .sound .span-most))))
+  reads-back : q ≡ reaction (g .class4) f k (not (eqb (x .refusal) 0)) w (x .axis .stored)
+  reads-back = q-is ∙ rw (reads (fits-abs {w = w64} (x .axis .stored) (omega (arith, stored-lt, at .shaft .sound .span-most))))
 
   pub preset-possible : Possible f (q .preset)
-  preset-possible = rw reads-back (possible (g .four) f k (not (eqb (x .refusal) 0)) w (x .axis .stored) stored-lt)
+  preset-possible = rw reads-back (possible (g .class4) f k (not (eqb (x .refusal) 0)) w (x .axis .stored) stored-lt)
 
   module _ (b : Standing) (b-is : b ≡ standing (presetBy (x .axis) (q .preset))) where
-    reaction-is : q ≡ reaction (four (a .parameters)) f k (faultyAt a raw) (wordBy (four (a .parameters)) output) (takenAt a raw .stored)
+    reaction-is : q ≡ reaction (class4 (a .parameters)) f k (faultyAt a raw) (wordBy (class4 (a .parameters)) output) (takenAt a raw .stored)
     unfolding faultyAt takenAt
     reaction-is = reads-back ∙ rw (w-is, g-is, x-is)
 
@@ -109,7 +109,7 @@ module _ (a : Axis) (f : InForce) (r : Ready a f) (k : Link) (raw : ℕ) (output
 
     link-is : q .link ≡ linkLeft a k raw output
     unfolding linkAfter
-    link-is = rw (reaction-is, ← r .is) (link-by (four (a .parameters)) f k (faultyAt a raw) output _)
+    link-is = rw (reaction-is, ← r .is) (link-by (class4 (a .parameters)) f k (faultyAt a raw) output _)
 
     pub left-fields : g ≡ fieldsOf (b .axis .parameters)
     left-fields = rw (axis-is, after-same a k raw output .1) g-is
@@ -120,7 +120,7 @@ module _ (a : Axis) (f : InForce) (r : Ready a f) (k : Link) (raw : ℕ) (output
     pub done-answer : _≡_ {A = Cycled} (record { axis = b .axis; link = q .link; refusal = 0 }) (done (axisAfter a k raw output) (linkLeft a k raw output))
     done-answer = rw (axis-is, link-is)
 
-    pub done-input : (l : List ℕ) → l ≡ inputBy (g .four) (q .link) w (b .axis)
+    pub done-input : (l : List ℕ) → l ≡ inputBy (g .class4) (q .link) w (b .axis)
         → l ≡ inputLeft a k raw output
     unfolding inputOf
-    done-input l l-is = l-is ∙ rw (w-is, link-is, ← axis-is, class-is (b .axis .parameters) g left-fields) (input-by (g .four) _ _ output)
+    done-input l l-is = l-is ∙ rw (w-is, link-is, ← axis-is, class-is (b .axis .parameters) g left-fields) (input-by (g .class4) _ _ output)

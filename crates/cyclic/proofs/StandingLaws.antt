@@ -16,32 +16,32 @@ use Rattle.integer.proofs.Signed.{signed, add-is, diff-is}
 use Rattle.integer.proofs.Size.{reads, fits-abs}
 use Rattle.encoder.specs.declared.quantity.Units.{Units}
 use Rattle.encoder.specs.declared.effect.InForce.{InForce}
-use Rattle.travel.specs.declared.Reported.{Reported}
-use Rattle.travel.specs.declared.Reported.the-variants.{At, Refused}
-use Rattle.travel.specs.declared.Travel.{Travel}
-use Rattle.travel.specs.declared.Moved.{Moved}
-use Rattle.travel.specs.declared.Moved.the-variants.{To}
-use Rattle.travel.specs.Travel.{moved, reportedAt}
-use Rattle.shift.specs.Shift.{offsetBy}
+use Rattle.axis_shaft.specs.declared.Reported.{Reported}
+use Rattle.axis_shaft.specs.declared.Reported.the-variants.{At, Refused}
+use Rattle.axis_shaft.specs.declared.Shaft.{Shaft}
+use Rattle.axis_shaft.specs.declared.Moved.{Moved}
+use Rattle.axis_shaft.specs.declared.Moved.the-variants.{To}
+use Rattle.axis_shaft.specs.Rules.{moved, reportedAt}
+use Rattle.axis_offset.specs.Offset.{offsetBy}
 use Rattle.axis.specs.declared.Axis.{Axis}
-use Rattle.axis.specs.Axis.{rulesOn, Ready, unshiftedOf, positionOf}
-use Rattle.axis.specs.Reading.{accepted, travelled}
+use Rattle.axis.specs.Limits.{rulesOn, Ready, unshiftedOf, positionOf}
+use Rattle.axis.specs.Reading.{accepted, withShaft}
 use Rattle.axis.specs.Preset.{asked, shifted, presetted}
 use Rattle.axis.proofs.AxisLaws.{Limits, limits-of}
 use Rattle.axis.proofs.LimitsKept.{apart-lt, asked-lt, put-is, unshifted-lt}
 use Rattle.axis.proofs.PositionLaws.{ready-reported, position-is, position-always}
 use Rattle.axis.proofs.PresetLaws.{shifted-is}
 use Rattle.axis.proofs.ReadingLaws.{take-to, take-no}
-use Rattle.link.specs.declared.Preset.{Preset}
-use Rattle.link.specs.Reaction.{Possible}
+use Rattle.cyclic_link.specs.declared.Preset.{Preset}
+use Rattle.cyclic_link.specs.Classes.{Possible}
 use Rattle.cyclic.specs.declared.standing.Standing.{Standing}
 use Rattle.cyclic.specs.Preset.{presetBy, standing}
 use Rattle.cyclic.proofs.CycleKept.{read-ready}
 
 -- ---- the raw number
-pub took-to : (a : Axis) (f : InForce) (r : Ready a f) (raw : ℕ) (m : Moved) (k : Travel) (x : Axis) → m ≡ To k → m ≡ moved f (a .travel) raw → x ≡ travelled a k
+pub took-to : (a : Axis) (f : InForce) (r : Ready a f) (raw : ℕ) (m : Moved) (k : Shaft) (x : Axis) → m ≡ To k → m ≡ moved f (a .shaft) raw → x ≡ withShaft a k
     → Ready x f
-took-to a f r raw m k x h m-is x-is = let y = accepted (travelled a k) in rw x-is (read-ready a f r raw y (take-to a f r raw m y k h refl m-is))
+took-to a f r raw m k x h m-is x-is = let y = accepted (withShaft a k) in rw x-is (read-ready a f r raw y (take-to a f r raw m y k h refl m-is))
 
 pub ruleset takes = (take-to, take-no, took-to)
 
@@ -49,7 +49,7 @@ pub ruleset takes = (take-to, take-no, took-to)
 abbrev units : ℕ → Units
 units n = record { 0 = n }
 
-module _ (a : Axis) (f : InForce) (r : Ready a f) (q : Reported) (q-is : q ≡ reportedAt f (toZ w64 (ofZ w64 (a .offset))) (a .travel)) (o : Preset) where
+module _ (a : Axis) (f : InForce) (r : Ready a f) (q : Reported) (q-is : q ≡ reportedAt f (toZ w64 (ofZ w64 (a .offset))) (a .shaft)) (o : Preset) where
   module _ (u v : Units) (h : q ≡ At u v) where
     here : (u ≡ record { 0 = positionOf a }) × (v ≡ record { 0 = unshiftedOf a })
     here =
@@ -72,7 +72,7 @@ module _ (a : Axis) (f : InForce) (r : Ready a f) (q : Reported) (q-is : q ≡ r
       to-lt = rw (r .is) (asked-lt a limits (o .value) (o .relative))
 
       value-fits : SFits w64 (o .value)
-      value-fits = fits-abs (o .value) (omega (arith, p .below (not-false _ t), r .travel .sound .span-most))
+      value-fits = fits-abs (o .value) (omega (arith, p .below (not-false _ t), r .shaft .sound .span-most))
 
       shift : shifted a z (toZ w64 (ofZ w64 (o .value))) ≡ presetted a (o .value) (o .relative)
       shift = shifted-is a f r (o .value) value-fits q q-is (o .relative) u v z h z-is
@@ -85,7 +85,7 @@ module _ (a : Axis) (f : InForce) (r : Ready a f) (q : Reported) (q-is : q ≡ r
       from-lt = rw (r .is) (unshifted-lt a limits)
 
       offset-fits : SFits w64 z
-      offset-fits = rw offset-is (fits-abs _ (omega (arith, apart-lt to (unshiftedOf a) (f .span .0) to-lt from-lt, r .travel .sound .span-most)))
+      offset-fits = rw offset-is (fits-abs _ (omega (arith, apart-lt to (unshiftedOf a) (f .span .0) to-lt from-lt, r .shaft .sound .span-most)))
 
       -- the sum of both is it again
       abbrev sum : ℤ
@@ -96,10 +96,10 @@ module _ (a : Axis) (f : InForce) (r : Ready a f) (q : Reported) (q-is : q ≡ r
           let n = unshiftedOf a in
           let d = pos to -ℤ pos n in
           let e : pos n +ℤ d ≡ pos to = omega (signed, add-is (pos n) d, diff-is (pos to) (pos n)) in
-          rw (reads offset-fits, here .1, toZ-pos w64 n (omega (arith, from-lt, r .travel .sound .span-most)), offset-is) e
+          rw (reads offset-fits, here .1, toZ-pos w64 n (omega (arith, from-lt, r .shaft .sound .span-most)), offset-is) e
 
       to-fits : SFits w64 (pos to)
-      to-fits = record { sfits = omega (arith, to-lt, r .travel .sound .span-most) }
+      to-fits = record { sfits = omega (arith, to-lt, r .shaft .sound .span-most) }
 
       pub sum-fits : SFits w64 sum
       sum-fits = rw sum-is to-fits
@@ -108,7 +108,7 @@ module _ (a : Axis) (f : InForce) (r : Ready a f) (q : Reported) (q-is : q ≡ r
       sum-positive = rw (sum-is, reads to-fits) tt
 
       pub sum-32 : Fits w32 (natAbs (toZ w64 (ofZ w64 sum)))
-      sum-32 = rw (sum-is, reads to-fits) (record { fits = omega (arith, to-lt, r .travel .sound .span-most) })
+      sum-32 = rw (sum-is, reads to-fits) (record { fits = omega (arith, to-lt, r .shaft .sound .span-most) })
 
       unshifted-kept : unshiftedOf (presetted a (o .value) (o .relative)) ≡ unshiftedOf a
       unfolding presetted unshiftedOf rulesOn

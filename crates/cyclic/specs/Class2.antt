@@ -5,9 +5,9 @@ use mathlib.Core.Bool.{Bool}
 use mathlib.Core.List.{List}
 use Rattle.integer.specs.Octets.{bigEndian, octets}
 use Rattle.axis.specs.declared.Axis.{Axis}
-use Rattle.axis.specs.Axis.{rulesOn, positionOf}
-use Rattle.link.specs.declared.Link.{Link}
-use Rattle.link.specs.Class2.{preset}
+use Rattle.axis.specs.Limits.{rulesOn, positionOf}
+use Rattle.cyclic_link.specs.declared.Link.{Link}
+use Rattle.cyclic_link.specs.Class2.{preset}
 use Rattle.cyclic.specs.Preset.{presetBy}
 
 -- the output word

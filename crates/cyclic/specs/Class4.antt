@@ -6,11 +6,11 @@ use mathlib.Core.Bool.{Bool, cond}
 use mathlib.Core.List.{List, _++_}
 use Rattle.integer.specs.Bits.{bit}
 use Rattle.integer.specs.Octets.{part, bigEndian, octets}
-use Rattle.encoder.specs.Parameters.{fieldsOf}
+use Rattle.encoder.specs.Rows.{fieldsOf}
 use Rattle.axis.specs.declared.Axis.{Axis}
-use Rattle.axis.specs.Axis.{rulesOn, unshiftedOf, positionOf}
-use Rattle.link.specs.declared.Link.{Link}
-use Rattle.link.specs.Class4.{preset, zsw}
+use Rattle.axis.specs.Limits.{rulesOn, unshiftedOf, positionOf}
+use Rattle.cyclic_link.specs.declared.Link.{Link}
+use Rattle.cyclic_link.specs.Class4.{preset, zsw}
 use Rattle.cyclic.specs.Preset.{presetBy}
 
 -- ---- the control words

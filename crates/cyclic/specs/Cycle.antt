@@ -9,20 +9,20 @@ use lib.ListN.{length}
 use Rattle.encoder.specs.declared.parameters.Parameters.{Parameters}
 use Rattle.encoder.specs.declared.effect.InForce.{InForce}
 use Rattle.encoder.specs.Refusal.{wrongBuffer, when, _before_, answer}
-use Rattle.encoder.specs.Parameters.{fieldsOf}
+use Rattle.encoder.specs.Rows.{fieldsOf}
 use Rattle.axis.specs.declared.Axis.{Axis}
-use Rattle.axis.specs.Axis.{rulesOn, axisRefusal}
-use Rattle.link.specs.declared.Link.{Link}
-use Rattle.link.specs.Class2 as Link2
-use Rattle.link.specs.Class4 as Link4
+use Rattle.axis.specs.Limits.{rulesOn, axisRefusal}
+use Rattle.cyclic_link.specs.declared.Link.{Link}
+use Rattle.cyclic_link.specs.Class2 as Link2
+use Rattle.cyclic_link.specs.Class4 as Link4
 use Rattle.cyclic.specs.declared.Cycled.{Cycled}
 use Rattle.cyclic.specs.Raw.{faultyAt, takenAt}
 use Rattle.cyclic.specs.Class2 as Class2
 use Rattle.cyclic.specs.Class4 as Class4
 
 -- the class that parameters came from: true for class 4
-abbrev pub four : Parameters → Bool
-four p = fieldsOf p .four
+abbrev pub class4 : Parameters → Bool
+class4 p = fieldsOf p .class4
 
 -- 4 octets out; 4 in, or 12 in telegram 81; else 13
 abbrev pub inputOctets : Bool → ℕ
@@ -33,7 +33,7 @@ lengthRefusal class output input = when (not (eqb output 4 && eqb input (inputOc
 
 -- 16, 13
 unfoldable pub cycleRefusal : Axis → List ℕ → List ℕ → ℕ
-cycleRefusal a output input = axisRefusal a before lengthRefusal (four (a .parameters)) (length output) (length input)
+cycleRefusal a output input = axisRefusal a before lengthRefusal (class4 (a .parameters)) (length output) (length input)
 
 -- the control word and the input, by the class
 abbrev pub wordBy : Bool → List ℕ → ℕ
@@ -44,17 +44,17 @@ inputBy class k word a = cond class (Class4.input k word a) (Class2.input a)
 
 -- the link that a cycle leaves, by what is in force
 unfoldable pub linkAfter : InForce → Parameters → Link → Bool → List ℕ → Link
-linkAfter f p k faulty output = cond (four p) (Link4.link f k faulty (Class4.counted output)) (Link2.link k faulty (Class2.wordOf output))
+linkAfter f p k faulty output = cond (class4 p) (Link4.link f k faulty (Class4.counted output)) (Link2.link k faulty (Class2.wordOf output))
 
 -- the axis that it leaves: the raw number first, and then the preset, if one is made
 unfoldable pub axisAfter : Axis → Link → ℕ → List ℕ → Axis
 axisAfter a k raw output =
-    cond (four (a .parameters)) (Class4.axis (takenAt a raw) k (faultyAt a raw) (Class4.counted output))
+    cond (class4 (a .parameters)) (Class4.axis (takenAt a raw) k (faultyAt a raw) (Class4.counted output))
     (Class2.axis (takenAt a raw) k (faultyAt a raw) (Class2.wordOf output))
 
 -- the input, by the link and the axis that it leaves
 unfoldable pub inputOf : Link → Axis → List ℕ → List ℕ
-inputOf k a output = cond (four (a .parameters)) (Class4.input k (Class4.counted output) a) (Class2.input a)
+inputOf k a output = cond (class4 (a .parameters)) (Class4.input k (Class4.counted output) a) (Class2.input a)
 
 -- the link and the input that a cycle with this raw number leaves
 abbrev pub linkLeft : Axis → Link → ℕ → List ℕ → Link

@@ -2,9 +2,9 @@
 -- Assumes nothing.
 use mathlib.Core.Bool.{cond}
 use Rattle.axis.specs.declared.Axis.{Axis}
-use Rattle.axis.specs.Axis.{unshiftedOf, positionOf}
+use Rattle.axis.specs.Limits.{unshiftedOf, positionOf}
 use Rattle.axis.specs.Preset.{presetted}
-use Rattle.link.specs.declared.Preset.{Preset}
+use Rattle.cyclic_link.specs.declared.Preset.{Preset}
 use Rattle.cyclic.specs.declared.standing.Standing.{Standing}
 
 -- the axis with the raw number taken: with the preset, if one is made

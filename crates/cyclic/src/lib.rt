@@ -5,8 +5,8 @@ mod standing;
 ghost use mathlib.Core.Path.{_≡_};
 ghost use mathlib.Core.Bool.{cond};
 ghost use lib.ListN.{length};
-ghost use Rattle.encoder.specs.Parameters.{fieldsOf};
-ghost use Rattle.axis.specs.Axis.{Ready};
+ghost use Rattle.encoder.specs.Rows.{fieldsOf};
+ghost use Rattle.axis.specs.Limits.{Ready};
 ghost use Rattle.cyclic.specs.Preset.{standing};
 ghost use Rattle.cyclic.specs.Cycle.{inputOctets, lengthRefusal, wordBy, inputBy, axisAfter, linkLeft, inputLeft, done, cycle, cycleInput};
 use axis::Axis;
@@ -15,8 +15,8 @@ use encoder::effect::InForce;
 use encoder::parameters::Fields;
 use encoder::refusal;
 use encoder::refusal::when;
-use link::Link;
-use link::react;
+use cyclic_link::Link;
+use cyclic_link::react;
 use octets::number;
 use octets::put_number;
 use standing::Standing;
@@ -55,7 +55,7 @@ fn run(axis: Axis, link: Link, rules: InForce, raw: u32, output: &[u8], input: &
 {
     let parameters = axis.parameters;
     let fields = parameters.fields();
-    let n = length_refusal(fields.four, output.len(), input.len());
+    let n = length_refusal(fields.class4, output.len(), input.len());
     if n != 0 {
         return Cycled {
             axis,
@@ -67,17 +67,17 @@ fn run(axis: Axis, link: Link, rules: InForce, raw: u32, output: &[u8], input: &
 }
 
 // The refusal of buffers of so many octets, 0 for those of the class.
-fn length_refusal(four: bool, output: usize, input: usize) -> u8
-    ensures { λ r. ⌜ r ≡ lengthRefusal four output input ⌝ }
+fn length_refusal(class4: bool, output: usize, input: usize) -> u8
+    ensures { λ r. ⌜ r ≡ lengthRefusal class4 output input ⌝ }
 {
-    when(!((output == 4) & (input == input_octets(four))), refusal::BUFFER)
+    when(!((output == 4) & (input == input_octets(class4))), refusal::BUFFER)
 }
 
 // 4 octets come in, or 12 in telegram 81.
-fn input_octets(four: bool) -> usize
-    ensures { λ r. ⌜ r ≡ inputOctets four ⌝ }
+fn input_octets(class4: bool) -> usize
+    ensures { λ r. ⌜ r ≡ inputOctets class4 ⌝ }
 {
-    if four { 12 } else { 4 }
+    if class4 { 12 } else { 4 }
 }
 
 // The same, with buffers of the lengths of the class.
@@ -90,15 +90,15 @@ fn exchange(
     output: &[u8],
     input: &mut [u8],
 ) -> Cycled
-    requires { ⌜ Ready axis rules × (fields ≡ fieldsOf (axis .parameters)) × (length (now output) ≡ 4) × (length (now input) ≡ inputOctets (fields .four)) ⌝ }
+    requires { ⌜ Ready axis rules × (fields ≡ fieldsOf (axis .parameters)) × (length (now output) ≡ 4) × (length (now input) ≡ inputOctets (fields .class4)) ⌝ }
     ensures { λ r. ⌜ (r ≡ done (axisAfter axis link raw (now (output .entry))) (linkLeft axis link raw (now (output .entry))))
         × (now (input .exit) ≡ inputLeft axis link raw (now (output .entry))) ⌝ }
 {
     let next = take(axis, rules, raw);
     let moved = next.axis;
     let faulty = next.refusal != 0;
-    let word = word_of(fields.four, output);
-    let reaction = react(fields.four, link, rules, faulty, word, moved.stored);
+    let word = word_of(fields.class4, output);
+    let reaction = react(fields.class4, link, rules, faulty, word, moved.stored);
     let kept = reaction.link;
     let asked = reaction.preset;
     let after = preset(moved, rules, asked);
@@ -112,11 +112,11 @@ fn exchange(
 }
 
 // The control word, by the class.
-fn word_of(four: bool, output: &[u8]) -> u32
+fn word_of(class4: bool, output: &[u8]) -> u32
     requires { ⌜ length (now output) ≡ 4 ⌝ }
-    ensures { λ r. ⌜ r ≡ wordBy four (now (output .entry)) ⌝ }
+    ensures { λ r. ⌜ r ≡ wordBy class4 (now (output .entry)) ⌝ }
 {
-    if four {
+    if class4 {
         return class4::counted(output);
     }
     number(output)
@@ -124,10 +124,10 @@ fn word_of(four: bool, output: &[u8]) -> u32
 
 // The input, by the class: that of class 2 is the position.
 fn fill(fields: Fields, after: Standing, link: Link, word: u32, input: &mut [u8])
-    requires { ⌜ (fields ≡ fieldsOf (after .axis .parameters)) × (after ≡ standing (after .axis)) × (length (now input) ≡ inputOctets (fields .four)) ⌝ }
-    ensures { λ _. ⌜ now (input .exit) ≡ inputBy (fields .four) link word (after .axis) ⌝ }
+    requires { ⌜ (fields ≡ fieldsOf (after .axis .parameters)) × (after ≡ standing (after .axis)) × (length (now input) ≡ inputOctets (fields .class4)) ⌝ }
+    ensures { λ _. ⌜ now (input .exit) ≡ inputBy (fields .class4) link word (after .axis) ⌝ }
 {
-    if fields.four {
+    if fields.class4 {
         class4::fill(fields, after, link, word, input);
     } else {
         put_number(input, after.position.0);

@@ -1,17 +1,17 @@
 // What a cycle does to an axis within its limits, under what is in force: the raw number, the preset, and where the axis then stands.
 ghost use mathlib.Core.Path.{_≡_};
-ghost use Rattle.axis.specs.Axis.{Ready};
+ghost use Rattle.axis.specs.Limits.{Ready};
 ghost use Rattle.axis.specs.Reading.{readRaw};
-ghost use Rattle.link.specs.Reaction.{Possible};
+ghost use Rattle.cyclic_link.specs.Classes.{Possible};
 ghost use Rattle.cyclic.specs.Preset.{presetBy, standing};
 use axis::Axis;
 use axis::Next;
 use encoder::effect::InForce;
 use encoder::quantity::Units;
-use link::Preset;
-use shift::offset_by;
-use travel::Moved;
-use travel::Reported;
+use cyclic_link::Preset;
+use axis_offset::offset_by;
+use axis_shaft::Moved;
+use axis_shaft::Reported;
 
 // An axis and its two positions.
 pub(crate) struct Standing {
@@ -26,10 +26,10 @@ pub(crate) fn take(axis: Axis, rules: InForce, raw: u32) -> Next
     ensures { λ r. ⌜ (r ≡ readRaw axis raw) × Ready (r .axis) rules ⌝ }
 {
     let mut next = axis;
-    let travel = axis.travel;
-    match travel.moved(rules, raw) {
+    let shaft = axis.shaft;
+    match shaft.moved(rules, raw) {
         Moved::To(here) => {
-            next.travel = here;
+            next.shaft = here;
             Next {
                 axis: next,
                 refusal: 0,
@@ -45,8 +45,8 @@ pub(crate) fn preset(axis: Axis, rules: InForce, asked: Preset) -> Standing
     ensures { λ r. ⌜ r ≡ standing (presetBy axis asked) ⌝ }
 {
     let mut next = axis;
-    let travel = axis.travel;
-    match travel.reported(rules, axis.offset) {
+    let shaft = axis.shaft;
+    match shaft.reported(rules, axis.offset) {
         Reported::At {
             position,
             unshifted,

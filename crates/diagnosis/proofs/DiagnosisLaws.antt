@@ -14,9 +14,9 @@ use Rattle.encoder.specs.declared.effect.Effect.{Effect}
 use Rattle.encoder.specs.declared.effect.Effect.the-variants.{Taken}
 use Rattle.encoder.proofs.RefusalLaws.{exits, when-none, before-none}
 use Rattle.axis.specs.declared.Axis.{Axis}
-use Rattle.axis.specs.Axis.{Ready, axisRefusal, inForceOn}
+use Rattle.axis.specs.Limits.{Ready, axisRefusal, inForceOn}
 use Rattle.axis.proofs.AxisLaws.{ready-of, outside-answer}
-use Rattle.link.specs.declared.Link.{Link}
+use Rattle.cyclic_link.specs.declared.Link.{Link}
 use Rattle.diagnosis.specs.Diagnosis.{lengthBy, general, versions, values, identity, report, diagnosisRefusal}
 
 -- ---- the parts in a buffer of 57 octets

@@ -1,14 +1,14 @@
 // The four parts of the diagnosis, each in its own stretch of the buffer.
 ghost use mathlib.Core.Path.{_≡_};
 ghost use lib.ListN.{length};
-ghost use Rattle.axis.specs.Axis.{Ready};
-ghost use Rattle.diagnosis.specs.Diagnosis.{shown, general, versions, complement, fourNumbers, values, identity};
+ghost use Rattle.axis.specs.Limits.{Ready};
+ghost use Rattle.diagnosis.specs.Diagnosis.{operatingOctet, general, versions, complement, fourNumbers, values, identity};
 use crate::size;
 use axis::Axis;
 use encoder::effect::InForce;
 use encoder::nameplate::Nameplate;
 use encoder::parameters::Fields;
-use link::Link;
+use cyclic_link::Link;
 use octets::put_number;
 
 // Octets 7 to 16.
@@ -23,15 +23,15 @@ pub(crate) fn fill_general(axis: Axis, link: Link, rules: InForce, part: &mut [u
     put_number(&mut part[8..10], turns);
     part[0] = size(rules);
     part[1] = link.faulty as u8;
-    part[2] = shown(parameters.fields());
+    part[2] = operating_octet(parameters.fields());
     part[3] = (turns != 1) as u8;
 }
 
 // Octet 9: all bits of class 2, and bits 0, 1 and 3 of class 4.
-fn shown(fields: Fields) -> u8
-    ensures { λ r. ⌜ r ≡ shown fields ⌝ }
+fn operating_octet(fields: Fields) -> u8
+    ensures { λ r. ⌜ r ≡ operatingOctet fields ⌝ }
 {
-    if fields.four {
+    if fields.class4 {
         return fields.operating & 0x0b;
     }
     fields.operating
@@ -74,7 +74,7 @@ fn put_four(first: u32, second: u32, third: u32, fourth: u32, part: &mut [u8])
 fn complement(z: i64) -> u32
     ensures { λ r. ⌜ r ≡ complement z ⌝ }
 {
-    ring::moved(0, z, 0x1_0000_0000) as u32
+    ring::add(0, z, 0x1_0000_0000) as u32
 }
 
 // Octets 48 to 63.

@@ -14,10 +14,10 @@ use Rattle.encoder.specs.declared.effect.InForce.{InForce}
 use Rattle.encoder.specs.declared.effect.Effect.{Effect}
 use Rattle.encoder.specs.declared.effect.Effect.the-variants.{Taken, Refused}
 use Rattle.encoder.specs.Refusal.{answer}
-use Rattle.encoder.specs.Nameplate.{plateRefusal, capacityOf}
+use Rattle.encoder.specs.Plate.{plateRefusal, capacityOf}
 use Rattle.encoder.specs.Operating.{classOn, scalingOn, reversedBy}
-use Rattle.encoder.specs.Parameters.{fieldsOf, refusalOn}
-use Rattle.encoder.specs.InForce.{rulesOf, inForce}
+use Rattle.encoder.specs.Rows.{fieldsOf, refusalOn}
+use Rattle.encoder.specs.Force.{rulesOf, inForce}
 use Rattle.encoder.proofs.RefusalLaws.{exits, before-none}
 use Rattle.encoder.proofs.PlateLaws.{plated}
 
@@ -32,7 +32,7 @@ module _ (n : Nameplate) (p : Parameters) where
     force-steps = record { fits = omega (arith, plated n force-plate) }
 
   module _ (f : Fields) (f-is : f ≡ fieldsOf p) (c : Steps) (c-is : c .0 ≡ capacityOf n) (s v a : Bool) (s-is : s ≡ scalingOn (f .operating))
-      (v-is : v ≡ reversedBy (f .four) (f .operating)) (a-is : a ≡ classOn (f .operating)) where
+      (v-is : v ≡ reversedBy (f .class4) (f .operating)) (a-is : a ≡ classOn (f .operating)) where
     pub force-on : s ≡ true
         → Taken (record { steps = n .steps; capacity = c; scale = f .units; span = f .range; reversed = v; enabled = a; speed = f .speed }) ≡ Taken (rulesOf n (fieldsOf p))
     unfolding rulesOf

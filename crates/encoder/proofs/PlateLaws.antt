@@ -9,7 +9,7 @@ use borrow.Author.Tests.{leb-true}
 use mir.Syntax.{w64, w32}
 use mir.Val.{Fits}
 use Rattle.encoder.specs.declared.nameplate.Nameplate.{Nameplate}
-use Rattle.encoder.specs.Nameplate.{plateRefusal, capacityOf}
+use Rattle.encoder.specs.Plate.{plateRefusal, capacityOf}
 use Rattle.encoder.proofs.RefusalLaws.{when-none}
 
 -- a product of two numbers of 32 bits, as M × T

@@ -11,10 +11,10 @@ use Rattle.encoder.specs.declared.parameters.Parameters.{Parameters}
 use Rattle.encoder.specs.declared.parameters.Fields.{Fields}
 use Rattle.encoder.specs.declared.effect.InForce.{InForce}
 use Rattle.encoder.specs.Refusal.{reservedBit, revolutionUnits, totalRange, when}
-use Rattle.encoder.specs.Nameplate.{plateRefusal, capacityOf}
+use Rattle.encoder.specs.Plate.{plateRefusal, capacityOf}
 use Rattle.encoder.specs.Operating.{scalingOn, reservedWrong}
-use Rattle.encoder.specs.Parameters.{fieldsOf, unitsWrong, rangeWrong, fieldsRefusal, refusalOn}
-use Rattle.encoder.specs.InForce.{scaleOf, spanOf, rulesOf, rulesFit, Sound}
+use Rattle.encoder.specs.Rows.{fieldsOf, unitsWrong, rangeWrong, fieldsRefusal, refusalOn}
+use Rattle.encoder.specs.Force.{scaleOf, spanOf, rulesOf, rulesFit, Sound}
 use Rattle.encoder.proofs.RefusalLaws.{before-none, when-not}
 use Rattle.encoder.proofs.PlateLaws.{and-split, plated, capacity-most}
 
@@ -65,10 +65,10 @@ module _ (n : Nameplate) (f : Fields) (fits : plateRefusal n ≡ 0) (none : fiel
   unfolding fieldsRefusal
   bounds true on =
       let p = plated n fits in
-      let three = before-none (when (reservedWrong (f .four) (f .operating)) reservedBit) _ none in
-      let four = before-none (when (unitsWrong n f) revolutionUnits) _ (three .1) in
-      let five = before-none (when (rangeWrong n f) totalRange) _ (four .1) in
-      let u = or-split _ _ (rw on at (when-not (unitsWrong n f) 3 (four .0))) in
+      let three = before-none (when (reservedWrong (f .class4) (f .operating)) reservedBit) _ none in
+      let class4 = before-none (when (unitsWrong n f) revolutionUnits) _ (three .1) in
+      let five = before-none (when (rangeWrong n f) totalRange) _ (class4 .1) in
+      let u = or-split _ _ (rw on at (when-not (unitsWrong n f) 3 (class4 .0))) in
       let r = or-split _ _ (rw on at (when-not (rangeWrong n f) 4 (five .0))) in
       let a = eqb-false (f .units .0) 0 (u .0) in
       let b = ltb-false (n .steps .0) (f .units .0) (u .1) in

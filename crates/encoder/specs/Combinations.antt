@@ -10,18 +10,18 @@ use Rattle.encoder.specs.declared.parameters.Parameters.{Parameters}
 use Rattle.encoder.specs.declared.parameters.Parameters.the-variants.{Class2, Class4}
 use Rattle.encoder.specs.declared.effect.Effect.{Effect}
 use Rattle.encoder.specs.declared.effect.Effect.the-variants.{Taken}
-use Rattle.encoder.specs.Nameplate.{plainPlate}
+use Rattle.encoder.specs.Plate.{plainPlate}
 
 -- R = 10, T = 3, so C = 30
 abbrev pub plate : Nameplate
 plate = plainPlate 10 3 0
 
 -- the octet with the bits, revolution units 4 and total range 7
-abbrev pub two : ℕ → Parameters
-two operating = Class2 operating (record { 0 = 4 }) (record { 0 = 7 })
+abbrev pub sent2 : ℕ → Parameters
+sent2 operating = Class2 operating (record { 0 = 4 }) (record { 0 = 7 })
 
-abbrev pub four : ℕ → Parameters
-four operating = Class4 operating (record { 0 = 4 }) (record { 0 = 7 }) 0 0
+abbrev pub sent4 : ℕ → Parameters
+sent4 operating = Class4 operating (record { 0 = 4 }) (record { 0 = 7 }) 0 0
 
 -- parameters, and what the paper puts in force
 pub record Combination : Type 0 where
@@ -61,20 +61,20 @@ off = false
 -- bit 0 is the code sequence, bit 1 the class, bit 3 scaling; bit 5 of class 4 is 1
 abbrev pub combinations : List Combination
 combinations =
-    gives (two 0x00) 10 30 cw off
-    ∷ gives (two 0x01) 10 30 ccw off
-    ∷ gives (two 0x02) 10 30 cw on
-    ∷ gives (two 0x03) 10 30 ccw on
-    ∷ gives (two 0x08) 10 30 cw off
-    ∷ gives (two 0x09) 10 30 ccw off
-    ∷ gives (two 0x0a) 4 7 cw on
-    ∷ gives (two 0x0b) 4 7 ccw on
-    ∷ gives (four 0x20) 10 30 cw off
-    ∷ gives (four 0x21) 10 30 cw off
-    ∷ gives (four 0x22) 10 30 cw on
-    ∷ gives (four 0x23) 10 30 ccw on
-    ∷ gives (four 0x28) 10 30 cw off
-    ∷ gives (four 0x29) 10 30 cw off
-    ∷ gives (four 0x2a) 4 7 cw on
-    ∷ gives (four 0x2b) 4 7 ccw on
+    gives (sent2 0x00) 10 30 cw off
+    ∷ gives (sent2 0x01) 10 30 ccw off
+    ∷ gives (sent2 0x02) 10 30 cw on
+    ∷ gives (sent2 0x03) 10 30 ccw on
+    ∷ gives (sent2 0x08) 10 30 cw off
+    ∷ gives (sent2 0x09) 10 30 ccw off
+    ∷ gives (sent2 0x0a) 4 7 cw on
+    ∷ gives (sent2 0x0b) 4 7 ccw on
+    ∷ gives (sent4 0x20) 10 30 cw off
+    ∷ gives (sent4 0x21) 10 30 cw off
+    ∷ gives (sent4 0x22) 10 30 cw on
+    ∷ gives (sent4 0x23) 10 30 ccw on
+    ∷ gives (sent4 0x28) 10 30 cw off
+    ∷ gives (sent4 0x29) 10 30 cw off
+    ∷ gives (sent4 0x2a) 4 7 cw on
+    ∷ gives (sent4 0x2b) 4 7 ccw on
     ∷ []

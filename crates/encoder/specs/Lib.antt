@@ -1,6 +1,6 @@
 pub mod Refusal
-pub mod Nameplate
+pub mod Plate
 pub mod Operating
-pub mod Parameters
-pub mod InForce
+pub mod Rows
+pub mod Force
 pub mod Combinations

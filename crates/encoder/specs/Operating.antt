@@ -15,8 +15,8 @@ scalingOn octet = classOn octet && bit 3 octet
 
 -- bit 0, the code sequence, 1 = rises counter-clockwise: class 2 obeys it always, class 4 only with its class on
 abbrev pub reversedBy : Bool → ℕ → Bool
-reversedBy four octet = bit 0 octet && (not four || classOn octet)
+reversedBy class4 octet = bit 0 octet && (not class4 || classOn octet)
 
 -- 3: bits 6 and 7 are zero; of class 2 bits 4 and 5 too; of class 4 bit 5 is 1
 abbrev pub reservedWrong : Bool → ℕ → Bool
-reservedWrong four octet = cond four (not (bit 5 octet)) (bit 4 octet || bit 5 octet) || (bit 6 octet || bit 7 octet)
+reservedWrong class4 octet = cond class4 (not (bit 5 octet)) (bit 4 octet || bit 5 octet) || (bit 6 octet || bit 7 octet)

@@ -1,6 +1,6 @@
 // What plate and parameters put in force (document 01, "Class 4 block", its last paragraph).
 ghost use mathlib.Core.Path.{_≡_};
-ghost use Rattle.encoder.specs.InForce.{inForce};
+ghost use Rattle.encoder.specs.Force.{inForce};
 use crate::nameplate::Nameplate;
 use crate::operating::class_on;
 use crate::operating::reversed;
@@ -41,7 +41,7 @@ pub fn in_force(plate: Nameplate, parameters: Parameters) -> Effect
     let f = parameters.fields();
     let steps = plate.steps;
     let capacity = plate.capacity();
-    let reversed = reversed(f.four, f.operating);
+    let reversed = reversed(f.class4, f.operating);
     let enabled = class_on(f.operating);
     let speed = f.speed;
     if scaling(f.operating) {

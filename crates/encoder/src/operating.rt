@@ -18,19 +18,19 @@ pub(crate) fn scaling(octet: u8) -> bool
 }
 
 // Positions rise counter-clockwise.
-pub(crate) fn reversed(four: bool, octet: u8) -> bool
-    ensures { λ r. ⌜ r ≡ reversedBy four octet ⌝ }
+pub(crate) fn reversed(class4: bool, octet: u8) -> bool
+    ensures { λ r. ⌜ r ≡ reversedBy class4 octet ⌝ }
 {
-    bit(octet as u32, 0) & (!four | class_on(octet))
+    bit(octet as u32, 0) & (!class4 | class_on(octet))
 }
 
 // A bit with one allowed state has the other.
-pub(crate) fn reserved(four: bool, octet: u8) -> bool
-    ensures { λ r. ⌜ r ≡ reservedWrong four octet ⌝ }
+pub(crate) fn reserved(class4: bool, octet: u8) -> bool
+    ensures { λ r. ⌜ r ≡ reservedWrong class4 octet ⌝ }
 {
     let o = octet as u32;
     let high = bit(o, 6) | bit(o, 7);
-    if four {
+    if class4 {
         !bit(o, 5) | high
     } else {
         bit(o, 4) | bit(o, 5) | high

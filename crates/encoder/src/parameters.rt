@@ -1,6 +1,6 @@
 // The parameters of both classes, kept as sent, and what they are refused for (document 01, "Class 2 telegram" and "Class 4 block").
 ghost use mathlib.Core.Path.{_≡_};
-ghost use Rattle.encoder.specs.Parameters.{fieldsOf, fieldsRefusal, refusalOn};
+ghost use Rattle.encoder.specs.Rows.{fieldsOf, fieldsRefusal, refusalOn};
 use crate::nameplate::Nameplate;
 use crate::operating::reserved;
 use crate::operating::scaling;
@@ -28,7 +28,7 @@ pub enum Parameters {
 
 // What the rules ask of the parameters, of either class.
 pub struct Fields {
-    pub four: bool,
+    pub class4: bool,
     pub operating: u8,
     pub units: Units,
     pub range: Units,
@@ -53,7 +53,7 @@ impl Parameters {
                 units,
                 range,
             } => Fields {
-                four: false,
+                class4: false,
                 operating,
                 units,
                 range,
@@ -66,7 +66,7 @@ impl Parameters {
                 speed,
                 ..
             } => Fields {
-                four: true,
+                class4: true,
                 operating,
                 units,
                 range,
@@ -88,7 +88,7 @@ impl Fields {
         let most = units * plate.turns.0 as u64;
         let units_outside = (units == 0) | (steps < units);
         let range_outside = (range < units) | (most < range);
-        let bits_wrong = when(reserved(self.four, self.operating), refusal::RESERVED_BIT);
+        let bits_wrong = when(reserved(self.class4, self.operating), refusal::RESERVED_BIT);
         let units_wrong = when(scaling & units_outside, refusal::REVOLUTION_UNITS);
         let range_wrong = when(scaling & range_outside, refusal::TOTAL_RANGE);
         let speed_wrong = when(3 < self.speed, refusal::SPEED_UNIT);

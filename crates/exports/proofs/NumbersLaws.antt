@@ -10,9 +10,9 @@ use Rattle.encoder.specs.declared.nameplate.Nameplate.{Nameplate}
 use Rattle.encoder.specs.declared.parameters.Parameters.{Parameters}
 use Rattle.encoder.specs.Refusal.{answer}
 use Rattle.encoder.proofs.RefusalLaws.{stepwise, number-is, kept-is}
-use Rattle.reader.specs.declared.Received.{Received}
-use Rattle.reader.specs.declared.Received.the-variants.{Taken, Refused}
-use Rattle.reader.specs.Read.{telegramRefusal, telegramParameters, readTelegram, blockRefusal, blockParameters, readBlock}
+use Rattle.parameters_reader.specs.declared.Received.{Received}
+use Rattle.parameters_reader.specs.declared.Received.the-variants.{Taken, Refused}
+use Rattle.parameters_reader.specs.Read.{telegramRefusal, telegramParameters, readTelegram, blockRefusal, blockParameters, readBlock}
 use Rattle.exports.specs.Numbers.{numbersOf, Fills, readersRefusal, takeRefusal, numbersIn, taken}
 
 -- ---- stores fill a list

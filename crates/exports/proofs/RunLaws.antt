@@ -8,12 +8,12 @@ use borrow.Author.Tests.{eq-eqb, ne-eqb}
 use Rattle.encoder.specs.declared.nameplate.Nameplate.{Nameplate}
 use Rattle.encoder.specs.declared.parameters.Parameters.{Parameters}
 use Rattle.encoder.specs.Refusal.{_before_, answer}
-use Rattle.encoder.specs.Nameplate.{plateRefusal}
+use Rattle.encoder.specs.Plate.{plateRefusal}
 use Rattle.encoder.proofs.RefusalLaws.{first-no, number-is}
 use Rattle.axis.specs.declared.Axis.{Axis}
 use Rattle.axis.specs.declared.Next.{Next}
 use Rattle.axis.specs.Reading.{next, startRaw}
-use Rattle.batch.specs.Batch.{after, positionsOf, batchRefusal, batch, batchList}
+use Rattle.axis_batch.specs.Batch.{after, positionsOf, batchRefusal, batch, batchList}
 use Rattle.exports.specs.Run.{runRefusal, ran}
 
 -- a batch that is refused keeps its list, so that its list is by its number either way

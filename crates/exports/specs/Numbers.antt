@@ -10,14 +10,14 @@ use Rattle.encoder.specs.declared.nameplate.Nameplate.{Nameplate}
 use Rattle.encoder.specs.declared.parameters.Parameters.{Parameters}
 use Rattle.encoder.specs.declared.parameters.Parameters.the-variants.{Class2, Class4}
 use Rattle.encoder.specs.Refusal.{wrongBuffer, when, _before_, answer}
-use Rattle.encoder.specs.Nameplate.{plateRefusal}
-use Rattle.reader.specs.declared.Received.{Received}
-use Rattle.reader.specs.declared.Received.the-variants.{Taken, Refused}
+use Rattle.encoder.specs.Plate.{plateRefusal}
+use Rattle.parameters_reader.specs.declared.Received.{Received}
+use Rattle.parameters_reader.specs.declared.Received.the-variants.{Taken, Refused}
 
 -- parameters of class 2 where the first number is 0, and of class 4 where it is any other
 abbrev pub parametersOf : ℕ → ℕ → ℕ → ℕ → ℕ → ℕ → Parameters
-parametersOf four operating units range life speed =
-    cond (eqb four 0) (Class2 operating (record { 0 = units }) (record { 0 = range }))
+parametersOf class4 operating units range life speed =
+    cond (eqb class4 0) (Class2 operating (record { 0 = units }) (record { 0 = range }))
     (Class4 operating (record { 0 = units }) (record { 0 = range }) life speed)
 
 -- the fields as sent, one number each

@@ -8,9 +8,9 @@ use lib.ListN.{length}
 use Rattle.encoder.specs.declared.nameplate.Nameplate.{Nameplate}
 use Rattle.encoder.specs.declared.parameters.Parameters.{Parameters}
 use Rattle.encoder.specs.Refusal.{wrongBuffer, when, _before_, answer}
-use Rattle.encoder.specs.Nameplate.{plateRefusal}
+use Rattle.encoder.specs.Plate.{plateRefusal}
 use Rattle.axis.specs.Reading.{startRaw}
-use Rattle.batch.specs.Batch.{batch, batchList}
+use Rattle.axis_batch.specs.Batch.{batch, batchList}
 
 -- 7 and 13; then those of the start: 3, 4, 5, 6, and 9 of the first raw number; then those of the batch: 9 and 10, entry after entry
 unfoldable pub runRefusal : Nameplate → Parameters → ℕ → List ℕ → List ℕ → ℕ

@@ -5,15 +5,15 @@ mod run;
 mod take;
 
 ghost use mathlib.Core.Path.{_≡_};
-ghost use Rattle.reader.specs.Read.{readTelegram, readBlock};
-ghost use Rattle.encoder.specs.Nameplate.{plainPlate};
+ghost use Rattle.parameters_reader.specs.Read.{readTelegram, readBlock};
+ghost use Rattle.encoder.specs.Plate.{plainPlate};
 ghost use Rattle.exports.specs.Numbers.{parametersOf, takeRefusal, taken};
 ghost use Rattle.exports.specs.Run.{runRefusal, ran};
 use encoder::nameplate::Nameplate;
 use encoder::parameters::Parameters;
 use encoder::quantity::Units;
-use reader::read_block;
-use reader::read_telegram;
+use parameters_reader::read_block;
+use parameters_reader::read_telegram;
 use run::run;
 use take::take;
 
@@ -23,7 +23,7 @@ use take::take;
 pub extern "C" fn encoder_batch(
     steps: u32,
     turns: u32,
-    four: u8,
+    class4: u8,
     operating: u8,
     units: u32,
     range: u32,
@@ -33,11 +33,11 @@ pub extern "C" fn encoder_batch(
     raws: &[u32],
     positions: &mut [u32],
 ) -> u8
-    ensures { λ r. ⌜ (r ≡ runRefusal (plainPlate steps turns 0) (parametersOf four operating units range life speed) first (now (raws .entry)) (now (positions .entry)))
-        × (now (positions .exit) ≡ ran (plainPlate steps turns 0) (parametersOf four operating units range life speed) first (now (raws .entry)) (now (positions .entry))) ⌝ }
+    ensures { λ r. ⌜ (r ≡ runRefusal (plainPlate steps turns 0) (parametersOf class4 operating units range life speed) first (now (raws .entry)) (now (positions .entry)))
+        × (now (positions .exit) ≡ ran (plainPlate steps turns 0) (parametersOf class4 operating units range life speed) first (now (raws .entry)) (now (positions .entry))) ⌝ }
 {
     let plate = Nameplate::plain(steps, turns, 0);
-    let sent = parameters(four, operating, units, range, life, speed);
+    let sent = parameters(class4, operating, units, range, life, speed);
     run(plate, sent, first, raws, positions)
 }
 
@@ -72,12 +72,12 @@ pub extern "C" fn encoder_read_block(
     take(plate, 5, read_block(plate, block), parameters)
 }
 
-fn parameters(four: u8, operating: u8, units: u32, range: u32, life: u8, speed: u8) -> Parameters
-    ensures { λ r. ⌜ r ≡ parametersOf four operating units range life speed ⌝ }
+fn parameters(class4: u8, operating: u8, units: u32, range: u32, life: u8, speed: u8) -> Parameters
+    ensures { λ r. ⌜ r ≡ parametersOf class4 operating units range life speed ⌝ }
 {
     let units = Units(units);
     let range = Units(range);
-    if four == 0 {
+    if class4 == 0 {
         return Parameters::Class2 {
             operating,
             units,

@@ -2,7 +2,7 @@
 ghost use mathlib.Core.Path.{_≡_};
 ghost use Rattle.exports.specs.Run.{runRefusal, ran};
 use axis::Axis;
-use batch::batch;
+use axis_batch::batch;
 use encoder::nameplate::Nameplate;
 use encoder::parameters::Parameters;
 use encoder::refusal;

@@ -6,7 +6,7 @@ ghost use Rattle.exports.specs.Numbers.{numbersOf, Fills, takeRefusal, t
 use encoder::nameplate::Nameplate;
 use encoder::parameters::Parameters;
 use encoder::refusal;
-use reader::Received;
+use parameters_reader::Received;
 
 // Parameters fill a list of `size` numbers.
 pub(crate) fn take(plate: Nameplate, size: usize, received: Received, list: &mut [u32]) -> u8

@@ -36,9 +36,9 @@ module _ (from by n : ℕ) (f : from < n) (b : by ≤ n) where
 
 -- ---- any place and any number: what dividing each by n leaves is the same around the ring
 module _ (place n from by m r : ℕ) (d : ℤ) (fits : SFits w64 d) (from-is : from ≡ place % n) (lt : from < n) (by-is : by ≡ m % n) where
-  moved-back : ltZ (toZ w64 (ofZ w64 d)) (pos 0) ≡ true → r ≡ onRing (pos from +ℤ pos (n - by)) n → m ≡ natAbs (toZ w64 (ofZ w64 d))
+  add-back : ltZ (toZ w64 (ofZ w64 d)) (pos 0) ≡ true → r ≡ onRing (pos from +ℤ pos (n - by)) n → m ≡ natAbs (toZ w64 (ofZ w64 d))
       → r ≡ onRing (pos place +ℤ d) n
-  moved-back t r-is m-is =
+  add-back t r-is m-is =
       let h : 0 < n = omega arith in
       let x = pos place +ℤ d in
       let y = pos from +ℤ pos (n - by) in
@@ -48,9 +48,9 @@ module _ (place n from by m r : ℕ) (d : ℤ) (fits : SFits w64 d) (from-is : f
       = omega (signed, add-is (pos place) d, abs-is d, apart d, N.div-add-mod' place n, N.div-add-mod' m n, N.suc-mul (m / n) n, N.mod-lt m h) in
       r-is ∙ rw (on-ring x n h, on-ring y n h) (sym (modulo-alike x y (suc (m / n)) (place / n) h e))
 
-  moved-ahead : ltZ (toZ w64 (ofZ w64 d)) (pos 0) ≡ false → r ≡ onRing (pos from +ℤ pos by) n → m ≡ natAbs (toZ w64 (ofZ w64 d))
+  add-ahead : ltZ (toZ w64 (ofZ w64 d)) (pos 0) ≡ false → r ≡ onRing (pos from +ℤ pos by) n → m ≡ natAbs (toZ w64 (ofZ w64 d))
       → r ≡ onRing (pos place +ℤ d) n
-  moved-ahead t r-is m-is =
+  add-ahead t r-is m-is =
       let h : 0 < n = omega arith in
       let x = pos place +ℤ d in
       let y = pos from +ℤ pos by in
@@ -63,12 +63,12 @@ module _ (place n from by m r : ℕ) (d : ℤ) (fits : SFits w64 d) (from-is : f
 
   by-way : (t : Bool) → ltZ (toZ w64 (ofZ w64 d)) (pos 0) ≡ t → r ≡ onRing (pos from +ℤ pos (cond t (n - by) by)) n
       → m ≡ natAbs (toZ w64 (ofZ w64 d)) → r ≡ onRing (pos place +ℤ d) n
-  by-way true e r-is m-is = moved-back e r-is m-is
-  by-way false e r-is m-is = moved-ahead e r-is m-is
+  by-way true e r-is m-is = add-back e r-is m-is
+  by-way false e r-is m-is = add-ahead e r-is m-is
 
-  pub moved-on : (on : ℕ) → r ≡ onRing (pos from +ℤ pos on) n → on ≡ cond (ltZ (toZ w64 (ofZ w64 d)) (pos 0)) (n - by) by
+  pub add-on : (on : ℕ) → r ≡ onRing (pos from +ℤ pos on) n → on ≡ cond (ltZ (toZ w64 (ofZ w64 d)) (pos 0)) (n - by) by
       → m ≡ natAbs (toZ w64 (ofZ w64 d)) → r ≡ onRing (pos place +ℤ d) n
-  moved-on on r-is on-is m-is = by-way (ltZ (toZ w64 (ofZ w64 d)) (pos 0)) refl (rw on-is at r-is) m-is
+  add-on on r-is on-is m-is = by-way (ltZ (toZ w64 (ofZ w64 d)) (pos 0)) refl (rw on-is at r-is) m-is
 
 -- ---- the way ahead that comes to the same
 module _ (d : ℤ) (by n : ℕ) (fits : SFits w64 d) where
@@ -157,4 +157,4 @@ pub between-is : (z : ℤ) (n : ℕ) → SFits w64 z → Fits w32 n
 unfolding inRange
 between-is z n f h = rw (reads (end-fits (pos 0) n (omega arith) h), read-end n h, reads f) (both-ends z n)
 
-pub ruleset rings = (on-none, ahead-on, ahead-round, forward-back, forward-ahead, moved-on, rest-is, rest-lt, end-fits, between-is)
+pub ruleset rings = (on-none, ahead-on, ahead-round, forward-back, forward-ahead, add-on, rest-is, rest-lt, end-fits, between-is)

@@ -7,7 +7,7 @@ ghost use lib.Signed.{ltZ};
 ghost use Rattle.ring.specs.Ring.{onRing, inRange};
 
 // The place that lies d further on than a place, or back where d is below 0.
-pub fn moved(place: u64, d: i64, n: u64) -> u64
+pub fn add(place: u64, d: i64, n: u64) -> u64
     ensures { λ r. ⌜ r ≡ onRing (pos place +ℤ d) n ⌝ }
 {
     if n == 0 {

@@ -12,8 +12,8 @@ use Rattle.encoder.specs.declared.nameplate.Nameplate.{Nameplate}
 use Rattle.sensor.specs.declared.Reading.{Reading}
 use Rattle.sensor.specs.declared.Reading.the-variants.{Number, Refused}
 use Rattle.encoder.specs.Refusal.{wrongStep, when, answer}
-use Rattle.encoder.specs.Nameplate.{plateRefusal, capacityOf}
-use Rattle.sensor.specs.Reading.{rawOf, stepRefusal, numbered}
+use Rattle.encoder.specs.Plate.{plateRefusal, capacityOf}
+use Rattle.sensor.specs.Raw.{rawOf, stepRefusal, numbered}
 use Rattle.encoder.proofs.RefusalLaws.{before-none, when-not}
 use Rattle.encoder.proofs.PlateLaws.{capacity-most}
 

@@ -8,11 +8,11 @@ use encoder::effect::InForce;
 use encoder::effect::in_force;
 use encoder::nameplate::Nameplate;
 use libc::STDOUT_FILENO;
-use reader::Received;
+use parameters_reader::Received;
 use ring::magnitude;
-use travel::Reported;
-use velocity::Speed;
-use writer::Written;
+use axis_shaft::Reported;
+use axis_velocity::Speed;
+use parameters_writer::Written;
 
 // A reader's answer, with what the parameters put in force on the nameplate.
 pub(crate) fn received(plate: Nameplate, answer: Received) {

@@ -6,7 +6,7 @@ use crate::vector::octets;
 use axis::Axis;
 use cyclic::cycle;
 use diagnosis::diagnosis;
-use link::Link;
+use cyclic_link::Link;
 
 pub struct Bench {
     pub axis: Axis,

@@ -18,8 +18,8 @@ use encoder::parameters::Parameters;
 use encoder::quantity::Steps;
 use encoder::quantity::Turns;
 use encoder::quantity::Units;
-use travel::Travel;
-use velocity::velocity;
+use axis_shaft::Shaft;
+use axis_velocity::velocity;
 
 // Makes the call, and yields the axis that it leaves. `number` is a reading by its raw number, `preset` an absolute and `change` a relative
 // preset, `hold` sets the held preset value.
@@ -68,7 +68,7 @@ fn fresh(nameplate: Nameplate, parameters: Parameters) -> Axis {
     Axis {
         nameplate,
         parameters,
-        travel: Travel::NOWHERE,
+        shaft: Shaft::NOWHERE,
         offset: 0,
         preset: 0,
         stored: 0,
@@ -82,12 +82,12 @@ fn given(axis: Axis, line: &[u8]) -> Axis {
     let offset = signed(line, last.next);
     let preset = signed(line, offset.next);
     let stored = signed(line, preset.next);
-    let travel = Travel {
+    let shaft = Shaft {
         place: Steps(place.value),
         last: Steps(last.value),
     };
     let mut record = axis;
-    record.travel = travel;
+    record.shaft = shaft;
     record.offset = offset.value;
     record.preset = preset.value;
     record.stored = stored.value;
@@ -162,7 +162,7 @@ fn list(axis: Axis, line: &[u8]) -> Axis {
 }
 
 fn batch(axis: Axis, raws: &[u32], positions: &mut [u32]) -> Axis {
-    let next = batch::batch(axis, raws, positions);
+    let next = axis_batch::batch(axis, raws, positions);
     answer::next(next);
     answer::positions(positions);
     next.axis

@@ -5,7 +5,7 @@ use axis::Axis;
 use axis::Next;
 use encoder::quantity::Steps;
 use encoder::quantity::Turns;
-use in_place::read_in_place;
+use axis_in_place::read_in_place;
 
 pub(crate) fn lent(axis: Axis, step: Steps, turn: Turns) -> Next
     ensures { λ r. ⌜ r ≡ read axis (step .0) (turn .0) ⌝ }

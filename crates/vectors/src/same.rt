@@ -3,7 +3,7 @@ use axis::Axis;
 use axis::Next;
 use encoder::nameplate::Nameplate;
 use encoder::parameters::Parameters;
-use travel::Travel;
+use axis_shaft::Shaft;
 
 pub(crate) fn same(a: Next, b: Next) -> bool {
     let axis_a = a.axis;
@@ -16,8 +16,8 @@ fn axes(a: Axis, b: Axis) -> bool {
     let plate_b = b.nameplate;
     let sent_a = a.parameters;
     let sent_b = b.parameters;
-    let travel_a = a.travel;
-    let travel_b = b.travel;
+    let travel_a = a.shaft;
+    let travel_b = b.shaft;
     plates(plate_a, plate_b)
         & parameters(sent_a, sent_b)
         & travels(travel_a, travel_b)
@@ -50,7 +50,7 @@ fn serials(a: [u8; 10], b: [u8; 10]) -> bool {
 fn parameters(a: Parameters, b: Parameters) -> bool {
     let f = a.fields();
     let g = b.fields();
-    (f.four == g.four)
+    (f.class4 == g.class4)
         & (f.operating == g.operating)
         & (f.units.0 == g.units.0)
         & (f.range.0 == g.range.0)
@@ -66,6 +66,6 @@ fn life(parameters: Parameters) -> u8 {
     }
 }
 
-fn travels(a: Travel, b: Travel) -> bool {
+fn travels(a: Shaft, b: Shaft) -> bool {
     (a.place.0 == b.place.0) & (a.last.0 == b.last.0)
 }

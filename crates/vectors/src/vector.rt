@@ -10,9 +10,9 @@ use crate::parse::past_blanks;
 use encoder::nameplate::Nameplate;
 use encoder::parameters::Parameters;
 use encoder::quantity::Units;
-use reader::read_block;
-use reader::read_telegram;
-use writer::write_parameters;
+use parameters_reader::read_block;
+use parameters_reader::read_telegram;
+use parameters_writer::write_parameters;
 
 // Writes the line, and below it the answer. Yields the axis and the link that it leaves.
 pub(crate) fn run(bench: Bench, line: &[u8]) -> Bench {

@@ -2,7 +2,7 @@
 -- Assumes nothing.
 use borrow.Author.Needs.{needs}
 use Rattle.encoder.proofs.RefusalLaws.{exits}
-use Rattle.sensor.specs.Reading.{numbered}
+use Rattle.sensor.specs.Raw.{numbered}
 use Rattle.sensor.proofs.ReadingLaws.{fitting}
 use Rattle.sensor.proofs.raw_number.Statement.{statement}
 use Rattle.sensor.proofs.raw_number.Tie as tie

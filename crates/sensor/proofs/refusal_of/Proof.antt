@@ -1,7 +1,7 @@
 -- By the calls, in the order of the definition.
 -- Assumes nothing.
 use borrow.Author.Needs.{needs}
-use Rattle.sensor.specs.Reading.{stepRefusal}
+use Rattle.sensor.specs.Raw.{stepRefusal}
 use Rattle.sensor.proofs.refusal_of.Statement.{statement}
 use Rattle.sensor.proofs.refusal_of.Tie as tie
 

@@ -1,7 +1,7 @@
 -- By the laws of Class4Laws, one for each way out.
 -- Assumes nothing.
 use borrow.Author.Needs.{needs}
-use Rattle.cyclic.proofs.Class4Laws.{four}
+use Rattle.cyclic.proofs.Class4Laws.{words4}
 use Rattle.cyclic.proofs.class4.counted.Statement.{statement}
 use Rattle.cyclic.proofs.class4.counted.Tie as tie
 
@@ -18,5 +18,5 @@ counted-spec =
     (λ c. search needs)
     (λ c. search needs)
     (λ c κs. search needs)
-    (λ c. search (needs, four))
-    (λ c. search (needs, four)))
+    (λ c. search (needs, words4))
+    (λ c. search (needs, words4)))

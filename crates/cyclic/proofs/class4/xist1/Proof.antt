@@ -1,7 +1,7 @@
 -- By the laws of Class4Laws, one for each way out.
 -- Assumes nothing.
 use borrow.Author.Needs.{needs}
-use Rattle.cyclic.proofs.Class4Laws.{four}
+use Rattle.cyclic.proofs.Class4Laws.{words4}
 use Rattle.cyclic.proofs.class4.xist1.Statement.{statement}
 use Rattle.cyclic.proofs.class4.xist1.Tie as tie
 
@@ -11,5 +11,5 @@ xist1-spec =
     (tie.spec
     (λ c. search needs)
     (λ c κs. search needs)
-    (λ c. search (needs, four))
-    (λ c. search (needs, four)))
+    (λ c. search (needs, words4))
+    (λ c. search (needs, words4)))

@@ -1,7 +1,7 @@
 -- By the number of the refusal.
 -- Assumes nothing.
 use borrow.Author.Needs.{needs}
-use Rattle.encoder.specs.InForce.{inForce}
+use Rattle.encoder.specs.Force.{inForce}
 use Rattle.encoder.proofs.ForceLaws.{asks, force}
 use Rattle.encoder.proofs.effect.in_force.Statement.{statement}
 use Rattle.encoder.proofs.effect.in_force.Tie as tie

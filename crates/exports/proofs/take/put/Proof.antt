@@ -11,6 +11,6 @@ put-spec =
     (λ c. search needs) (λ c. search needs)
     (λ c κs. let two = c .before .before in rw (two .parameters .given .1) at (two .before .before .before .pre)) (λ c. search needs)
     (λ c. search needs) (λ c. search needs) (λ c. search needs)
-    (λ c κs. let four = c .before .before in rw (four .parameters2 .given .1) at (four .before .before .before .pre)) (λ c. search needs)
+    (λ c κs. let class4 = c .before .before in rw (class4 .parameters2 .given .1) at (class4 .before .before .before .pre)) (λ c. search needs)
     (λ c. let done = c .before .before in rw (done .before .before .before .parameters .given .1) (done .put-three .ensures)) (λ c. search needs)
     (λ c. let done = c .before .before in rw (done .before .before .before .parameters2 .given .1) (done .put-five .ensures)))

@@ -54,10 +54,10 @@ use Rattle.axis.proofs.Axis as Rec
 use Rattle.axis.proofs.Axis.Laws as Rec′
 use Rattle.axis.proofs.Next as N
 use Rattle.axis.proofs.Next.Laws as N′
-use Rattle.in_place.proofs.read_in_place as callee
-use Rattle.in_place.proofs.read_in_place.Symbol as callee-def
-use Rattle.in_place.proofs.read_in_place.Symbol.{name as #callee}
-use Rattle.in_place.proofs.read_in_place.Met as callee-thm
+use Rattle.axis_in_place.proofs.read_in_place as callee
+use Rattle.axis_in_place.proofs.read_in_place.Symbol as callee-def
+use Rattle.axis_in_place.proofs.read_in_place.Symbol.{name as #callee}
+use Rattle.axis_in_place.proofs.read_in_place.Met as callee-thm
 use Rattle.vectors.proofs.lent.lent as f
 use Rattle.vectors.proofs.lent.lent.Key.{name as #f}
 use Rattle.vectors.proofs.lent.lent.Statement as stated
@@ -197,4 +197,4 @@ lent-spec 𝓤 H 𝓜 𝓖 𝓡 =
     entered 𝓤 H (tripleOf 𝓤 H (𝓖 .A) f.signature (f.spec 𝓤 H (𝓖 .A) (𝓜 .mem) (𝓡 .run)))
     (tables 𝓤 H 𝓜 𝓡 code.env .C) (tables 𝓤 H 𝓜 𝓡 code.env .Λ) #f code.function (code.unfolded 𝓤 H 𝓜 𝓡)
     (meets 𝓤 H (𝓖 .A) (givenOf 𝓤 H 𝓜 𝓖) (𝓜 .mem) (𝓡 .run) (tablesOf 𝓤 H 𝓜 (tables 𝓤 H 𝓜 𝓡 code.env))
-    (cited 𝓤 H (Callee 𝓤 H (𝓖 .A) (𝓜 .mem) (𝓡 .run)) 𝓜 𝓡 code.env #callee callee-def.routine code.calls-in-place·read-in-place (callee-thm.met 𝓤 H 𝓜 𝓖 𝓡)))
+    (cited 𝓤 H (Callee 𝓤 H (𝓖 .A) (𝓜 .mem) (𝓡 .run)) 𝓜 𝓡 code.env #callee callee-def.routine code.calls-axis-in-place·read-in-place (callee-thm.met 𝓤 H 𝓜 𝓖 𝓡)))

@@ -1,7 +1,7 @@
 -- As the definition says.
 -- Assumes nothing.
 use borrow.Author.Needs.{needs}
-use Rattle.encoder.specs.Nameplate.{plateRefusal}
+use Rattle.encoder.specs.Plate.{plateRefusal}
 use Rattle.encoder.proofs.nameplate.Nameplate.refusal.Statement.{statement}
 use Rattle.encoder.proofs.nameplate.Nameplate.refusal.Tie as tie
 

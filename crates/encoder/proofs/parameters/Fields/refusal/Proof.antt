@@ -1,7 +1,7 @@
 -- By the calls, in the order of the definition.
 -- Assumes nothing.
 use borrow.Author.Needs.{needs}
-use Rattle.encoder.specs.Parameters.{fieldsRefusal}
+use Rattle.encoder.specs.Rows.{fieldsRefusal}
 use Rattle.encoder.proofs.PlateLaws.{fits-product}
 use Rattle.encoder.proofs.parameters.Fields.refusal.Statement.{statement}
 use Rattle.encoder.proofs.parameters.Fields.refusal.Tie as tie

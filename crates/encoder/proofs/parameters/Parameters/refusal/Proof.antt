@@ -1,7 +1,7 @@
 -- By the calls, in the order of the definition.
 -- Assumes nothing.
 use borrow.Author.Needs.{needs}
-use Rattle.encoder.specs.Parameters.{refusalOn}
+use Rattle.encoder.specs.Rows.{refusalOn}
 use Rattle.encoder.proofs.parameters.Parameters.refusal.Statement.{statement}
 use Rattle.encoder.proofs.parameters.Parameters.refusal.Tie as tie
 

@@ -1,0 +1,33 @@
+// Presets on numbers alone: which value is refused, and the offset that a preset leaves (document 01, "The axis", rule 6; rows 11 and 12).
+ghost use mathlib.Core.Path.{_≡_};
+ghost use Rattle.axis_offset.specs.Offset.{valueRefusal, offsetBy};
+use encoder::effect::InForce;
+use encoder::quantity::Units;
+use encoder::refusal;
+use ring::between;
+
+// The refusal of a preset or of a value to be held, 0 where it is taken.
+pub fn value_refusal(rules: InForce, value: i64) -> u8
+    ensures { λ r. ⌜ r ≡ valueRefusal rules value ⌝ }
+{
+    if !rules.enabled {
+        return refusal::CLASS_OFF;
+    }
+    let span = rules.span.0;
+    if !between(value, span) {
+        return refusal::PRESET;
+    }
+    0
+}
+
+// The offset after a preset: the position that it asks for, less the unshifted one.
+pub fn offset_by(value: i64, relative: bool, position: Units, unshifted: Units, span: Units) -> i64
+    ensures { λ r. ⌜ r ≡ offsetBy (span .0) (position .0) (unshifted .0) value relative ⌝ }
+{
+    let from = unshifted.0 as i64;
+    let n = span.0 as u64;
+    if relative {
+        return ring::add(position.0 as u64, value, n) as i64 - from;
+    }
+    ring::add(0, value, n) as i64 - from
+}

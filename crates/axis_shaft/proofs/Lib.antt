@@ -1,0 +1,5 @@
+pub mod SensorLaws
+pub mod ShorterWay
+pub mod PlaceLaws
+pub mod ShaftLaws
+pub mod BatchLaws

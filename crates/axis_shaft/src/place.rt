@@ -1,0 +1,75 @@
+// The place, kept modulo R x L, and the position that it stands for (document 01, "The axis", rules 3 to 5 and 7).
+ghost use mathlib.Core.Path.{_≡_};
+ghost use Prim.Native.Nat.{_<_};
+ghost use lib.ListN.{length};
+ghost use Rattle.encoder.specs.Force.{Sound};
+ghost use Rattle.axis_shaft.specs.Rules.{period, Inside, moveOf, movedTo, unshifted, positionAt};
+ghost use Rattle.axis_shaft.specs.Batch.{refusalIn, after, positionsIn};
+use crate::Shaft;
+use crate::raw::move_to;
+use encoder::effect::InForce;
+use encoder::quantity::Steps;
+use encoder::quantity::Units;
+
+// How many places there are: R x L.
+pub(crate) fn period(rules: InForce) -> u64
+    requires { ⌜ Sound rules ⌝ }
+    ensures { λ r. ⌜ (r ≡ period rules) × (0 < r) ⌝ }
+{
+    rules.steps.0 * rules.span.0 as u64
+}
+
+impl Shaft {
+    // At a new reading that is taken, which makes the move d.
+    pub(crate) fn advanced(self, rules: InForce, raw: u32, d: i64) -> Shaft
+        requires { ⌜ Inside rules self × (raw < rules .capacity .0) × (d ≡ moveOf rules (self .last .0) raw) ⌝ }
+        ensures { λ r. ⌜ r ≡ movedTo rules self raw ⌝ }
+    {
+        let last = Steps(raw as u64);
+        let place = Steps(ring::add(self.place.0, d, period(rules)));
+        Shaft { place, last }
+    }
+
+    // The unshifted position.
+    pub(crate) fn units(self, rules: InForce) -> Units
+        requires { ⌜ Inside rules self ⌝ }
+        ensures { λ r. ⌜ (r .0 ≡ unshifted rules self) × (r .0 < rules .span .0) ⌝ }
+    {
+        let steps = rules.steps.0;
+        let scale = rules.scale.0 as u64;
+        let span = rules.span.0 as u64;
+        Units((self.place.0 * scale / steps % span) as u32)
+    }
+
+    // The position.
+    pub(crate) fn position(self, rules: InForce, offset: i64) -> u32
+        requires { ⌜ Inside rules self ⌝ }
+        ensures { λ r. ⌜ r ≡ positionAt rules offset self ⌝ }
+    {
+        let unshifted = self.units(rules);
+        ring::add(unshifted.0 as u64, offset, rules.span.0 as u64) as u32
+    }
+
+    // New readings that are taken, and the position at each.
+    pub(crate) fn follow(
+        self,
+        rules: InForce,
+        offset: i64,
+        raws: &[u32],
+        positions: &mut [u32],
+    ) -> Shaft
+        requires { ⌜ Inside rules self × (length (now raws) ≡ length (now positions)) × (refusalIn rules (self .last .0) (now raws) ≡ 0) ⌝ }
+        ensures { λ r. ⌜ (r ≡ after rules self (now (raws .entry))) × (now (positions .exit) ≡ positionsIn rules offset self (now (raws .entry))) ⌝ }
+    {
+        let mut shaft = self;
+        let mut i = 0;
+        while i < raws.len() {
+            let raw = raws[i];
+            let next = shaft.advanced(rules, raw, move_to(rules, shaft.last, raw));
+            positions[i] = next.position(rules, offset);
+            shaft = next;
+            i += 1;
+        }
+        shaft
+    }
+}

@@ -1,0 +1,126 @@
+// Raw numbers of the sensor, which begin again at 0 after C (document 01, "The axis", rules 1 and 3).
+ghost use mathlib.Core.Path.{_≡_};
+ghost use Prim.Native.Nat.{_≤_, _<_, _^_};
+ghost use lib.IntN.{pos, _-ℤ_};
+ghost use Rattle.integer.specs.Modulus.{_modulo_};
+ghost use Rattle.encoder.specs.Force.{Sound};
+ghost use Rattle.axis_shaft.specs.Rules.{oriented, difference, shorter, moveOf, halfRefusal, moveRefusal, approachFrom};
+ghost use Rattle.axis_shaft.specs.Batch.{refusalIn};
+use crate::Approach;
+use encoder::effect::InForce;
+use encoder::quantity::Steps;
+use encoder::refusal;
+use encoder::refusal::when;
+
+// A raw number in the direction in force.
+pub(crate) fn oriented(rules: InForce, raw: Steps) -> Steps
+    requires { ⌜ Sound rules × (raw .0 < rules .capacity .0) ⌝ }
+    ensures { λ r. ⌜ (r .0 ≡ oriented rules (raw .0)) × (r .0 < rules .capacity .0) ⌝ }
+{
+    if rules.reversed {
+        // C - raw modulo C, without a division
+        if raw.0 == 0 {
+            return raw;
+        }
+        return Steps(rules.capacity.0 - raw.0);
+    }
+    raw
+}
+
+// The difference of two readings modulo C, in the direction in force: counter-clockwise it is that of the two exchanged.
+fn difference(rules: InForce, last: Steps, raw: Steps) -> Steps
+    requires { ⌜ Sound rules × (last .0 < rules .capacity .0) × (raw .0 < rules .capacity .0) ⌝ }
+    ensures { λ r. ⌜ (r .0 ≡ difference rules (last .0) (raw .0)) × (r .0 < rules .capacity .0) ⌝ }
+{
+    if rules.reversed {
+        return apart(rules.capacity, raw, last);
+    }
+    apart(rules.capacity, last, raw)
+}
+
+// How far one number of the sensor lies ahead of another.
+fn apart(capacity: Steps, from: Steps, to: Steps) -> Steps
+    requires { ⌜ (from .0 < capacity .0) × (to .0 < capacity .0) ⌝ }
+    ensures { λ r. ⌜ (r .0 ≡ (pos (to .0) -ℤ pos (from .0)) modulo capacity .0) × (r .0 < capacity .0) ⌝ }
+{
+    if from.0 <= to.0 {
+        return Steps(to.0 - from.0);
+    }
+    Steps(to.0 + (capacity.0 - from.0))
+}
+
+// A difference taken the shorter way: ahead above 0, back below.
+fn shorter(n: Steps, capacity: Steps) -> i64
+    requires { ⌜ (n .0 < capacity .0) × (capacity .0 ≤ 2 ^ 31) ⌝ }
+    ensures { λ r. ⌜ r ≡ shorter (n .0) (capacity .0) ⌝ }
+{
+    if 2 * n.0 < capacity.0 {
+        return n.0 as i64;
+    }
+    n.0 as i64 - capacity.0 as i64
+}
+
+// The refusal of a difference that leads as far ahead as back, 0 of any other.
+fn half_range(n: Steps, capacity: Steps) -> u8
+    requires { ⌜ n .0 < 2 ^ 31 ⌝ }
+    ensures { λ r. ⌜ r ≡ halfRefusal (n .0) (capacity .0) ⌝ }
+{
+    when(2 * n.0 == capacity.0, refusal::HALF_RANGE)
+}
+
+// The move that a new reading makes, or its refusal.
+pub(crate) fn approach(rules: InForce, last: Steps, raw: u32) -> Approach
+    requires { ⌜ Sound rules × (last .0 < rules .capacity .0) ⌝ }
+    ensures { λ r. ⌜ r ≡ approachFrom rules (last .0) raw ⌝ }
+{
+    let here = Steps(raw as u64);
+    if rules.capacity.0 <= here.0 {
+        return Approach::Refused(refusal::TURN);
+    }
+    let n = difference(rules, last, here);
+    let half = half_range(n, rules.capacity);
+    if half != 0 {
+        return Approach::Refused(half);
+    }
+    Approach::By(shorter(n, rules.capacity))
+}
+
+// The move of a new reading that is taken.
+pub(crate) fn move_to(rules: InForce, last: Steps, raw: u32) -> i64
+    requires { ⌜ Sound rules × (last .0 < rules .capacity .0) × (raw < rules .capacity .0) ⌝ }
+    ensures { λ r. ⌜ r ≡ moveOf rules (last .0) raw ⌝ }
+{
+    let n = difference(rules, last, Steps(raw as u64));
+    shorter(n, rules.capacity)
+}
+
+// The refusal of a new reading, 0 where it is taken.
+fn move_refusal(rules: InForce, last: Steps, raw: u32) -> u8
+    requires { ⌜ Sound rules × (last .0 < rules .capacity .0) ⌝ }
+    ensures { λ r. ⌜ r ≡ moveRefusal rules (last .0) raw ⌝ }
+{
+    let here = Steps(raw as u64);
+    if rules.capacity.0 <= here.0 {
+        return refusal::TURN;
+    }
+    half_range(difference(rules, last, here), rules.capacity)
+}
+
+// The first refusal among new readings, 0 where all are taken.
+pub(crate) fn first_refusal(rules: InForce, before: Steps, raws: &[u32]) -> u8
+    requires { ⌜ Sound rules × (before .0 < rules .capacity .0) ⌝ }
+    ensures { λ r. ⌜ r ≡ refusalIn rules (before .0) (now (raws .entry)) ⌝ }
+{
+    let mut last = before;
+    let mut i = 0;
+    while i < raws.len() {
+        let raw = raws[i];
+        let n = move_refusal(rules, last, raw);
+        if n != 0 {
+            return n;
+        }
+        last = Steps(raw as u64);
+        i += 1;
+    }
+    0
+}

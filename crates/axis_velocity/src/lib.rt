@@ -1,0 +1,90 @@
+// How fast the shaft runs, from a new reading and the time since the last one (document 01, "Velocity").
+ghost use mathlib.Core.Path.{_≡_};
+ghost use Prim.Native.Nat.{_<_, _≤_, _^_};
+ghost use lib.IntN.{natAbs};
+ghost use Rattle.integer.specs.Clamp.{clamp};
+ghost use Rattle.encoder.specs.Force.{Sound};
+ghost use Rattle.axis.specs.Limits.{Ready};
+ghost use Rattle.axis_velocity.specs.Velocity.{factorOf, least, greatest, rateOf, velocityAt};
+use axis::Axis;
+use encoder::effect::Effect;
+use encoder::effect::InForce;
+use encoder::quantity::Steps;
+use encoder::quantity::Turns;
+use encoder::refusal;
+use sensor::Reading;
+use sensor::raw_number;
+use axis_shaft::Approach;
+
+pub enum Speed {
+    At(i32),
+    Refused(u8),
+}
+
+// The velocity at a new reading, elapsed milliseconds after the last. The axis is not moved.
+pub fn velocity(axis: Axis, step: Steps, turn: Turns, elapsed: u16) -> Speed
+    ensures { λ r. ⌜ r ≡ velocityAt axis (step .0) (turn .0) elapsed ⌝ }
+{
+    match axis.rules() {
+        Effect::Taken(rules) => measured(axis, rules, step, turn, elapsed),
+        Effect::Refused(n) => Speed::Refused(n),
+    }
+}
+
+fn measured(axis: Axis, rules: InForce, step: Steps, turn: Turns, elapsed: u16) -> Speed
+    requires { ⌜ Ready axis rules ⌝ }
+    ensures { λ r. ⌜ r ≡ velocityAt axis (step .0) (turn .0) elapsed ⌝ }
+{
+    if elapsed == 0 {
+        return Speed::Refused(refusal::ELAPSED);
+    }
+    let plate = axis.nameplate;
+    let shaft = axis.shaft;
+    match raw_number(plate, step, turn) {
+        Reading::Number(raw) => match shaft.approach(rules, raw) {
+            Approach::By(d) => Speed::At(rate(rules, d, elapsed)),
+            Approach::Refused(n) => Speed::Refused(n),
+        },
+        Reading::Refused(n) => Speed::Refused(n),
+    }
+}
+
+// The velocity of a move by d steps.
+fn rate(rules: InForce, d: i64, elapsed: u16) -> i32
+    requires { ⌜ Sound rules × (natAbs d ≤ 2 ^ 31) × (0 < elapsed) ⌝ }
+    ensures { λ r. ⌜ r ≡ rateOf rules d elapsed ⌝ }
+{
+    let divisor = rules.steps.0 * elapsed as u64;
+    limited(d * factor(rules) as i64 / divisor as i64)
+}
+
+// What a move is multiplied by, for the speed unit in force.
+fn factor(rules: InForce) -> u64
+    requires { ⌜ Sound rules ⌝ }
+    ensures { λ r. ⌜ (r ≡ factorOf rules) × (r ≤ 65536000) ⌝ }
+{
+    let scale = rules.scale.0 as u64;
+    if rules.speed == 0 {
+        return scale * 1000;
+    }
+    if rules.speed == 1 {
+        return scale * 100;
+    }
+    if rules.speed == 2 {
+        return scale * 10;
+    }
+    60000
+}
+
+// The number of 32 bits with a sign that is nearest to q.
+fn limited(q: i64) -> i32
+    ensures { λ r. ⌜ r ≡ clamp least greatest q ⌝ }
+{
+    if q < -0x8000_0000 {
+        return -0x8000_0000;
+    }
+    if 0x7fff_ffff < q {
+        return 0x7fff_ffff;
+    }
+    q as i32
+}

@@ -1,0 +1,3 @@
+pub mod Log
+pub mod Axislog
+pub mod Worthless

@@ -1,0 +1,49 @@
+-- Log programs that document 01 would send back ("Programs we would send back"), each as axislog but for what it prints. Each breaks the claim:
+-- proofs/Worthless.antt.
+-- Assumes nothing.
+use Prim.Native.Nat.{ℕ}
+use mathlib.Core.List.{List}
+use Rattle.integer.specs.Text.{ascii}
+use Rattle.encoder.specs.Refusal.{noForm}
+use Rattle.axis.specs.declared.Axis.{Axis}
+use Rattle.axis.specs.Limits.{unshiftedOf}
+use Rattle.axislog_answers.specs.declared.Answer.{Answer}
+use Rattle.axislog_answers.specs.declared.Answer.the-variants.{Ready, At, Refused}
+use Rattle.axislog_accuracy.specs.Log.{Program}
+use Rattle.axislog_accuracy.specs.Axislog.{axislog}
+
+-- another answer, from the axis after the line and from ours
+abbrev pub answers : (Axis → Answer → Answer) → Program
+answers f =
+    record {
+      State = axislog .State;
+      empty = axislog .empty;
+      answer = λ s line. f (axislog .after s line .axis) (axislog .answer s line);
+      after = axislog .after;
+    }
+
+abbrev pub refusesAll : Program
+refusesAll = answers (λ a ours. Refused noForm)
+
+-- another position in the place of ours
+abbrev pub instead : ℕ → Answer → Answer
+instead n (At position) = At n
+instead n Ready = Ready
+instead n (Refused k) = Refused k
+
+abbrev pub always0 : Program
+always0 = answers (λ a ours. instead 0 ours)
+
+-- the unshifted position, as though no preset were made
+abbrev pub ignoresPresets : Program
+ignoresPresets = answers (λ a ours. instead (unshiftedOf a) ours)
+
+-- ---- the lines of document 01's listing on which they are found out
+abbrev pub setup : List ℕ
+setup = ascii "(axis (steps 10) (turns 3) (sequence cw) (scale 3 7))"
+
+abbrev pub read28 : List ℕ
+read28 = ascii "(read 28)"
+
+abbrev pub preset0 : List ℕ
+preset0 = ascii "(preset 0)"

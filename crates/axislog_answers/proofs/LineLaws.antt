@@ -1,0 +1,23 @@
+-- The line of an answer, for whoever copies it: its text stands at the start of its octets.
+-- Assumes nothing.
+use mathlib.Core.Path.{_≡_, refl, sym, ap, _∙_}
+use Prim.Native.Nat.{_≤_}
+use native.Mathlib.Omega.{arith}
+use lib.ListN.{length, take, length-append}
+use lib.Seq.{take-at}
+use Rattle.axislog_answers.specs.declared.Answer.{Answer}
+use Rattle.axislog_answers.specs.declared.Line.{Line}
+use Rattle.axislog_answers.specs.Text.{text, held, line}
+
+module _ (a : Answer) (r : Line) (r-is : r ≡ line a) where
+  pub line-text : take (r .length) (r .octets) ≡ text a
+  unfolding line held
+  line-text = rw r-is (take-at (text a) _ _ refl)
+
+  pub line-in : r .length ≤ length (r .octets)
+  unfolding line held
+  line-in = rw (r-is, length-append) (omega arith)
+
+  pub line-cut : r .length ≡ length (take (r .length) (r .octets))
+  unfolding line held
+  line-cut = ap (λ (l : Line). l .length) r-is ∙ sym (ap length line-text)

@@ -1,0 +1,23 @@
+-- By the laws of FormLaws, one for each way out.
+-- Assumes nothing.
+use borrow.Author.Needs.{needs}
+use Rattle.axislog_forms.proofs.FormLaws.{forms}
+use Rattle.axislog_forms.proofs.axis.Statement.{statement}
+use Rattle.axislog_forms.proofs.axis.Tie as tie
+
+pub axis-spec : {M : Type 1} → statement M
+axis-spec =
+    tie.close
+    (tie.spec
+    (λ c. search (needs, forms))
+    (λ c κs. search (needs, forms))
+    (λ c. search (needs, forms))
+    (λ c. search (needs, forms))
+    (λ c κs. search (needs, forms))
+    (λ c. search (needs, forms))
+    (λ c κs. search (needs, forms))
+    (λ c. search (needs, forms))
+    (λ c. search (needs, forms))
+    (λ c. search (needs, forms))
+    (λ c. search (needs, forms))
+    (λ c. search (needs, forms)))

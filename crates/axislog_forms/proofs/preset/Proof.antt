@@ -1,0 +1,31 @@
+-- By the laws of FormLaws, one for each way out.
+-- Assumes nothing.
+use borrow.Author.Needs.{needs}
+use Rattle.axislog_forms.proofs.FormLaws.{forms}
+use Rattle.axislog_forms.proofs.preset.Statement.{statement}
+use Rattle.axislog_forms.proofs.preset.Tie as tie
+
+pub preset-spec : {M : Type 1} → statement M
+preset-spec =
+    tie.close
+    (tie.spec
+    (λ c. search (needs, forms))
+    (λ c κs. search (needs, forms))
+    (λ c. search (needs, forms))
+    (λ c. search (needs, forms))
+    (λ c κs. search (needs, forms))
+    (λ c. search (needs, forms))
+    (λ c. search (needs, forms))
+    (λ c. search (needs, forms))
+    (λ c. search (needs, forms))
+    (λ c. search (needs, forms))
+    (λ c. search (needs, forms))
+    (λ c. search (needs, forms))
+    (λ c κs. search (needs, forms))
+    (λ c. search (needs, forms))
+    (λ c. search (needs, forms))
+    (λ c. search (needs, forms))
+    (λ c. search (needs, forms))
+    (λ c. search (needs, forms))
+    (λ c. search (needs, forms))
+    (λ c. search (needs, forms)))

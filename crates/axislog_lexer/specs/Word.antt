@@ -1,0 +1,24 @@
+-- Words in a line (document 01, "The program axislog"). Positions are counted from 0.
+-- Assumes nothing.
+use Prim.Native.Nat.{ℕ, _+_}
+use mathlib.Core.List.{List, [], _∷_}
+use mathlib.Core.Bool.{Bool, false, cond}
+use lib.Dec.{eqb}
+use lib.ListN.{length, drop}
+use Rattle.axislog_lexer.specs.declared.word.Place.{Place}
+use Rattle.axislog_lexer.specs.declared.word.Place.the-variants.{At, Nowhere}
+
+-- a word, and a text from position p on that begins with it: the position after the word
+unfoldable pub past : List ℕ → ℕ → List ℕ → Place
+past [] p text = At p
+past (w ∷ ws) p [] = Nowhere
+past (w ∷ ws) p (x ∷ xs) = cond (eqb x w) (past ws (p + 1) xs) Nowhere
+
+-- a place is position q
+abbrev pub isAt : Place → ℕ → Bool
+isAt (At p) q = eqb p q
+isAt Nowhere q = false
+
+-- the word stands at position p, and the line ends there
+unfoldable pub ends : List ℕ → ℕ → List ℕ → Bool
+ends word p line = isAt (past word p (drop p line)) (length line)

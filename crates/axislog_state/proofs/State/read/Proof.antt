@@ -1,0 +1,22 @@
+-- By the laws of StateLaws, one for each way out.
+-- Assumes nothing.
+use borrow.Author.Needs.{needs}
+use Rattle.axislog_state.proofs.StateLaws.{replies}
+use Rattle.axislog_state.proofs.State.read.Statement.{statement}
+use Rattle.axislog_state.proofs.State.read.Tie as tie
+
+pub read-spec : {M : Type 1} → statement M
+read-spec =
+    tie.close
+    (tie.spec
+    (λ c. search (needs, replies))
+    (λ c κs. search (needs, replies))
+    (λ c. search (needs, replies))
+    (λ c κs. search (needs, replies))
+    (λ c κs. search (needs, replies))
+    (λ c. search (needs, replies))
+    (λ c κs. search (needs, replies))
+    (λ c κs. search (needs, replies))
+    (λ c. search (needs, replies))
+    (λ c. search (needs, replies))
+    (λ c. search (needs, replies)))

@@ -1,0 +1,15 @@
+-- The preset that a cycle makes, of either class, is one that nothing refuses: class 2 has tested its value, and class 4 holds one within the limits.
+-- Assumes nothing.
+use mathlib.Core.Bool.{Bool, true, false}
+use Prim.Native.Nat.{ℕ, _<_}
+use lib.IntN.{ℤ, natAbs}
+use Rattle.encoder.specs.declared.effect.InForce.{InForce}
+use Rattle.cyclic_link.specs.declared.Link.{Link}
+use Rattle.cyclic_link.specs.Classes.{reaction, Possible}
+use Rattle.cyclic_link.proofs.Class2Laws as Class2
+use Rattle.cyclic_link.proofs.Class4Laws as Class4
+
+pub possible : (class : Bool) (f : InForce) (k : Link) (faulty : Bool) (w : ℕ) (stored : ℤ) → natAbs stored < f .span .0
+    → Possible f (reaction class f k faulty w stored .preset)
+possible true f k faulty w stored h = record { on = Class4.made-on f k faulty w; below = λ e. h }
+possible false f k faulty w stored h = record { on = Class2.made-on f k faulty w; below = Class2.made-below f k faulty w }

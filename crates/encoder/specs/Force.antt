@@ -1,0 +1,62 @@
+-- What plate and parameters put in force (document 01, end of "Class 4 block").
+-- Assumes nothing.
+use Prim.Native.Nat.{ℕ, _^_, _≤_}
+use mathlib.Core.Bool.{Bool, cond, _&&_}
+use lib.Dec.{leb}
+use Rattle.encoder.specs.declared.nameplate.Nameplate.{Nameplate}
+use Rattle.encoder.specs.declared.parameters.Parameters.{Parameters}
+use Rattle.encoder.specs.declared.parameters.Fields.{Fields}
+use Rattle.encoder.specs.declared.effect.InForce.{InForce}
+use Rattle.encoder.specs.declared.effect.Effect.{Effect}
+use Rattle.encoder.specs.declared.effect.Effect.the-variants.{Taken, Refused}
+use Rattle.encoder.specs.Refusal.{answer}
+use Rattle.encoder.specs.Plate.{capacityOf}
+use Rattle.encoder.specs.Operating.{classOn, scalingOn, reversedBy}
+use Rattle.encoder.specs.Rows.{fieldsOf, refusalOn}
+
+-- M and L: the fields as sent with scaling in force, otherwise R and C
+abbrev pub scaleOf : Nameplate → Fields → ℕ
+scaleOf n f = cond (scalingOn (f .operating)) (f .units .0) (n .steps .0)
+
+abbrev pub spanOf : Nameplate → Fields → ℕ
+spanOf n f = cond (scalingOn (f .operating)) (f .range .0) (capacityOf n)
+
+-- all that is in force: R, C, M, L, the direction, whether presets are made, and the unit of velocities
+unfoldable pub rulesOf : Nameplate → Fields → InForce
+rulesOf n f =
+    record {
+      steps = n .steps;
+      capacity = record { 0 = capacityOf n };
+      scale = record { 0 = scaleOf n f };
+      span = record { 0 = spanOf n f };
+      reversed = reversedBy (f .class4) (f .operating);
+      enabled = classOn (f .operating);
+      speed = f .speed;
+    }
+
+-- the answer: what is in force, or the number of the refusal
+unfoldable pub inForce : Nameplate → Parameters → Effect
+inForce n p = answer Refused (Taken (rulesOf n (fieldsOf p))) (refusalOn n p)
+
+-- bounds that keep every sum of the axis within its type. What a plate and parameters put in force is within them, and more is: R = 1, or M above R
+unfoldable pub rulesFit : InForce → Bool
+rulesFit f =
+    leb 1 (f .steps .0)
+    && leb (f .steps .0) 65536
+    && leb 1 (f .capacity .0)
+    && leb (f .capacity .0) (2 ^ 31)
+    && leb 1 (f .scale .0)
+    && leb (f .scale .0) 65536
+    && leb 1 (f .span .0)
+    && leb (f .span .0) (2 ^ 31)
+
+-- the same, as facts
+pub record Sound (f : InForce) : Type 0 where
+  pub steps-least : 1 ≤ f .steps .0
+  pub steps-most : f .steps .0 ≤ 65536
+  pub capacity-least : 1 ≤ f .capacity .0
+  pub capacity-most : f .capacity .0 ≤ 2 ^ 31
+  pub scale-least : 1 ≤ f .scale .0
+  pub scale-most : f .scale .0 ≤ 65536
+  pub span-least : 1 ≤ f .span .0
+  pub span-most : f .span .0 ≤ 2 ^ 31

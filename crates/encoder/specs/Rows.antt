@@ -1,0 +1,45 @@
+-- The parameters of both classes (document 01, "Class 2 telegram", "Class 4 block"; rows 4 to 7 of "When a call is turned away").
+-- Assumes nothing.
+use Prim.Native.Nat.{ℕ, _*_}
+use mathlib.Core.Bool.{Bool, true, false, _&&_, _||_}
+use lib.Dec.{eqb, ltb}
+use Rattle.encoder.specs.declared.nameplate.Nameplate.{Nameplate}
+use Rattle.encoder.specs.declared.parameters.Parameters.{Parameters}
+use Rattle.encoder.specs.declared.parameters.Parameters.the-variants.{Class2, Class4}
+use Rattle.encoder.specs.declared.parameters.Fields.{Fields}
+use Rattle.encoder.specs.Refusal.{reservedBit, revolutionUnits, totalRange, speedUnit, when, _before_}
+use Rattle.encoder.specs.Plate.{plateRefusal}
+use Rattle.encoder.specs.Operating.{scalingOn, reservedWrong}
+
+-- the fields by which parameters are judged; class 2 has no speed unit and uses unit 0
+abbrev pub fieldsOf : Parameters → Fields
+fieldsOf (Class2 operating units range) = record { class4 = false; operating = operating; units = units; range = range; speed = 0 }
+fieldsOf (Class4 operating units range life speed) =
+    record { class4 = true; operating = operating; units = units; range = range; speed = speed }
+
+-- 4: scaling in force, field 0 or above R
+abbrev pub unitsWrong : Nameplate → Fields → Bool
+unitsWrong n f = scalingOn (f .operating) && (eqb (f .units .0) 0 || ltb (n .steps .0) (f .units .0))
+
+-- 5: scaling in force, field below M or above M × T
+abbrev pub rangeWrong : Nameplate → Fields → Bool
+rangeWrong n f = scalingOn (f .operating) && (ltb (f .range .0) (f .units .0) || ltb (f .units .0 * n .turns .0) (f .range .0))
+
+-- 6: above 3
+abbrev pub speedWrong : Fields → Bool
+speedWrong f = ltb 3 (f .speed)
+
+-- the refusal of parameters on a nameplate within its limits, 0 where they are taken
+unfoldable pub fieldsRefusal : Nameplate → Fields → ℕ
+fieldsRefusal n f =
+    when (reservedWrong (f .class4) (f .operating)) reservedBit
+    before when (unitsWrong n f) revolutionUnits
+    before when (rangeWrong n f) totalRange
+    before when (speedWrong f) speedUnit
+
+abbrev pub parametersRefusal : Nameplate → Parameters → ℕ
+parametersRefusal n p = fieldsRefusal n (fieldsOf p)
+
+-- and on any nameplate: the order is 7, 3, 4, 5, 6
+unfoldable pub refusalOn : Nameplate → Parameters → ℕ
+refusalOn n p = plateRefusal n before parametersRefusal n p

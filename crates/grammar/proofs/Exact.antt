@@ -1,8 +1,0 @@
--- A line is read as a form just if it is that form as written.
--- Assumes nothing.
-use Rattle.grammar.specs.Grammar.{Exact}
-use Rattle.grammar.proofs.ReadsBack.{reads-back}
-use Rattle.grammar.proofs.ReadsOnly.{reads-only}
-
-pub exact : Exact
-exact = record { back = reads-back; only = reads-only }

@@ -1,0 +1,46 @@
+-- What the readers find in the octets, and the parameters judged by it.
+-- Assumes nothing.
+use mathlib.Core.Path.{_≡_, sym, ap, _∙_}
+use mathlib.Core.Bool.{not}
+use mathlib.Core.List.{List}
+use Prim.Native.Nat.{ℕ, _%_, _^_}
+use native.Mathlib.Omega.{arith}
+use lib.Dec.{eqb}
+use lib.ListN.{length, getD, take, drop}
+use borrow.Author.Tests.{eq-eqb, ne-eqb}
+use Rattle.integer.specs.Octets.{bigEndian}
+use Rattle.integer.proofs.Octets.{known, Octets, bigEndian-part}
+use Rattle.encoder.specs.declared.nameplate.Nameplate.{Nameplate}
+use Rattle.encoder.specs.declared.parameters.Parameters.{Parameters}
+use Rattle.encoder.specs.declared.parameters.Parameters.the-variants.{Class2, Class4}
+use Rattle.encoder.specs.Refusal.{otherIdent, when, _before_}
+use Rattle.encoder.specs.Plate.{plateRefusal}
+use Rattle.encoder.specs.Rows.{parametersRefusal, refusalOn}
+use Rattle.parameters_reader.specs.declared.Received.{Received}
+use Rattle.parameters_reader.specs.Read.{received, identIn, telegramParameters, blockParameters}
+use Rattle.encoder.proofs.RefusalLaws.{stepwise}
+
+module _ (n : Nameplate) (t : List ℕ) (os : Octets t) (u l k : ℕ) (r : Received) (p : Parameters) (v : ℕ) (v-is : v ≡ plateRefusal n) (none : v ≡ 0) (k-is : k ≡ refusalOn n p) where
+  judged : (q : Parameters) → p ≡ q → parametersRefusal n q ≡ k
+  unfolding refusalOn
+  judged q is = let e : k ≡ parametersRefusal n p = k-is ∙ rw (← v-is, none) in sym (e ∙ ap (parametersRefusal n) is)
+
+  pub telegram-judged : (i w m : ℕ) → length t ≡ 17 → i ≡ bigEndian (take 2 (drop 4 t)) % 2 ^ 32 → r ≡ received m p → m ≡ (w before k)
+      → w ≡ when (not (eqb i (n .ident))) otherIdent → p ≡ Class2 (getD t 8 0) (record { 0 = u }) (record { 0 = l })
+      → u ≡ bigEndian (take 4 (drop 9 t)) % 2 ^ 32 → l ≡ bigEndian (take 4 (drop 13 t)) % 2 ^ 32
+      → r ≡ received (when (not (eqb (identIn t) (n .ident))) otherIdent before parametersRefusal n (telegramParameters t)) (telegramParameters t)
+  telegram-judged i w m long i-is r-is m-is w-is p-is u-is l-is =
+      -- by the seventeen octets, however the definition takes its two from them
+      let e : bigEndian (take 2 (drop 4 t)) ≡ i = sym (i-is ∙ bigEndian-part t 4 2 (omega arith) os) in
+      let ident : identIn t ≡ i = rw (known 17 t long) (rw (known 17 t long) at e) in
+      let is : p ≡ telegramParameters t = rw (p-is, u-is, l-is, bigEndian-part t 9 4 (omega arith) os, bigEndian-part t 13 4 (omega arith) os) in
+      rw (ident, judged _ is, ← w-is, ← m-is, ← is) r-is
+
+  pub block-judged : length t ≡ 11 → r ≡ received k p → p ≡ Class4 (getD t 0 0) (record { 0 = u }) (record { 0 = l }) (getD t 9 0) (getD t 10 0)
+      → u ≡ bigEndian (take 4 (drop 1 t)) % 2 ^ 32 → l ≡ bigEndian (take 4 (drop 5 t)) % 2 ^ 32
+      → r ≡ received (parametersRefusal n (blockParameters t)) (blockParameters t)
+  block-judged long r-is p-is u-is l-is =
+      let is : p ≡ blockParameters t = rw (p-is, u-is, l-is, bigEndian-part t 1 4 (omega arith) os, bigEndian-part t 5 4 (omega arith) os) in
+      rw (judged _ is, ← is) r-is
+
+pub ruleset reads = (stepwise, eq-eqb, ne-eqb, telegram-judged, block-judged)

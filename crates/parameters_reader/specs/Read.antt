@@ -1,0 +1,51 @@
+-- The readers of both classes (document 01, "Class 2 telegram", "Class 4 block"; rows 1, 2 and 7 of "When a call is turned away").
+-- Assumes nothing.
+use Prim.Native.Nat.{ℕ}
+use mathlib.Core.Bool.{not}
+use mathlib.Core.List.{List}
+use lib.Dec.{eqb}
+use lib.ListN.{length}
+use Rattle.integer.specs.Octets.{octet, part, bigEndian}
+use Rattle.encoder.specs.declared.nameplate.Nameplate.{Nameplate}
+use Rattle.encoder.specs.declared.parameters.Parameters.{Parameters}
+use Rattle.encoder.specs.declared.parameters.Parameters.the-variants.{Class2, Class4}
+use Rattle.parameters_reader.specs.declared.Received.{Received}
+use Rattle.parameters_reader.specs.declared.Received.the-variants.{Taken, Refused}
+use Rattle.encoder.specs.Refusal.{wrongLength, otherIdent, when, _before_, answer}
+use Rattle.encoder.specs.Plate.{plateRefusal}
+use Rattle.encoder.specs.Rows.{parametersRefusal}
+
+-- the answer of a reader: the parameters, or the number of the refusal
+abbrev pub received : ℕ → Parameters → Received
+received n p = answer Refused (Taken p) n
+
+-- class 2, octets 5 and 6
+abbrev pub identIn : List ℕ → ℕ
+identIn t = bigEndian (part 5 6 t)
+
+-- octets 9, 10 to 13 and 14 to 17
+abbrev pub telegramParameters : List ℕ → Parameters
+telegramParameters t = Class2 (octet 9 t) (record { 0 = bigEndian (part 10 13 t) }) (record { 0 = bigEndian (part 14 17 t) })
+
+-- the order of refusals: 7, 1, 2, 3, 4, 5
+unfoldable pub telegramRefusal : Nameplate → List ℕ → ℕ
+telegramRefusal n t =
+    plateRefusal n
+    before when (not (eqb (length t) 17)) wrongLength
+    before when (not (eqb (identIn t) (n .ident))) otherIdent
+    before parametersRefusal n (telegramParameters t)
+
+unfoldable pub readTelegram : Nameplate → List ℕ → Received
+readTelegram n t = received (telegramRefusal n t) (telegramParameters t)
+
+-- class 4, octets 1, 2 to 5, 6 to 9, 10 and 11
+abbrev pub blockParameters : List ℕ → Parameters
+blockParameters b =
+    Class4 (octet 1 b) (record { 0 = bigEndian (part 2 5 b) }) (record { 0 = bigEndian (part 6 9 b) }) (octet 10 b) (octet 11 b)
+
+-- the order of refusals: 7, 1, 3, 4, 5, 6
+unfoldable pub blockRefusal : Nameplate → List ℕ → ℕ
+blockRefusal n b = plateRefusal n before when (not (eqb (length b) 11)) wrongLength before parametersRefusal n (blockParameters b)
+
+unfoldable pub readBlock : Nameplate → List ℕ → Received
+readBlock n b = received (blockRefusal n b) (blockParameters b)

@@ -1,0 +1,71 @@
+// The readers of both classes (document 01, "Class 2 telegram" and "Class 4 block").
+ghost use mathlib.Core.Path.{_≡_};
+ghost use Rattle.parameters_reader.specs.Read.{received, readTelegram, readBlock};
+use encoder::nameplate::Nameplate;
+use encoder::parameters::Parameters;
+use encoder::quantity::Units;
+use encoder::refusal;
+use encoder::refusal::first;
+use encoder::refusal::when;
+use octets::number;
+
+pub enum Received {
+    Taken(Parameters),
+    Refused(u8),
+}
+
+// Class 2: a telegram of 17 octets.
+pub fn read_telegram(plate: Nameplate, telegram: &[u8]) -> Received
+    ensures { λ r. ⌜ r ≡ readTelegram plate (now (telegram .entry)) ⌝ }
+{
+    let wrong = plate.refusal();
+    if wrong != 0 {
+        return Received::Refused(wrong);
+    }
+    if telegram.len() != 17 {
+        return Received::Refused(refusal::LENGTH);
+    }
+    let ident = number(&telegram[4..6]);
+    let units = number(&telegram[9..13]);
+    let range = number(&telegram[13..17]);
+    let parameters = Parameters::Class2 {
+        operating: telegram[8],
+        units: Units(units),
+        range: Units(range),
+    };
+    let other = when(ident != plate.ident as u32, refusal::IDENT);
+    judge(first(other, parameters.refusal(plate)), parameters)
+}
+
+// Class 4: a block of 11 octets.
+pub fn read_block(plate: Nameplate, block: &[u8]) -> Received
+    ensures { λ r. ⌜ r ≡ readBlock plate (now (block .entry)) ⌝ }
+{
+    let wrong = plate.refusal();
+    if wrong != 0 {
+        return Received::Refused(wrong);
+    }
+    if block.len() != 11 {
+        return Received::Refused(refusal::LENGTH);
+    }
+    let units = number(&block[1..5]);
+    let range = number(&block[5..9]);
+    let parameters = Parameters::Class4 {
+        operating: block[0],
+        units: Units(units),
+        range: Units(range),
+        life: block[9],
+        speed: block[10],
+    };
+    judge(parameters.refusal(plate), parameters)
+}
+
+// The parameters, or the number of their refusal.
+fn judge(n: u8, parameters: Parameters) -> Received
+    ensures { λ r. ⌜ r ≡ received n parameters ⌝ }
+{
+    if n != 0 {
+        return Received::Refused(n);
+    }
+    Received::Taken(parameters)
+}

@@ -1,0 +1,46 @@
+-- The writer of both classes (document 01, "Class 2 telegram", "Class 4 block"; row 13 of "When a call is turned away").
+-- Assumes nothing.
+use Prim.Native.Nat.{ℕ}
+use mathlib.Core.Bool.{not}
+use mathlib.Core.List.{List, [], _∷_, _++_}
+use lib.Dec.{eqb}
+use lib.ListN.{length}
+use Rattle.integer.specs.Octets.{part, octets}
+use Rattle.encoder.specs.declared.nameplate.Nameplate.{Nameplate}
+use Rattle.encoder.specs.declared.quantity.Units.{Units}
+use Rattle.encoder.specs.declared.parameters.Parameters.{Parameters}
+use Rattle.encoder.specs.declared.parameters.Parameters.the-variants.{Class2, Class4}
+use Rattle.parameters_writer.specs.declared.Written.{Written}
+use Rattle.parameters_writer.specs.declared.Written.the-variants.{Done, Refused}
+use Rattle.encoder.specs.Refusal.{wrongBuffer, when, _before_, answer}
+use Rattle.encoder.specs.Plate.{plateRefusal}
+use Rattle.encoder.specs.Rows.{parametersRefusal}
+
+-- the length of the parameters' class
+abbrev pub lengthOf : Parameters → ℕ
+lengthOf (Class2 operating units range) = 17
+lengthOf (Class4 operating units range life speed) = 11
+
+-- class 2: octets 5, 6 and 9 to 17 are filled, and the rest is kept
+unfoldable pub telegramOf : ℕ → ℕ → Units → Units → List ℕ → List ℕ
+telegramOf ident operating units range t =
+    part 1 4 t ++ octets 2 ident ++ part 7 8 t ++ (operating ∷ []) ++ octets 4 (units .0) ++ octets 4 (range .0)
+
+-- class 4: all eleven are filled
+unfoldable pub blockOf : ℕ → Units → Units → ℕ → ℕ → List ℕ
+blockOf operating units range life speed = (operating ∷ []) ++ octets 4 (units .0) ++ octets 4 (range .0) ++ (life ∷ speed ∷ [])
+
+unfoldable pub octetsOf : ℕ → Parameters → List ℕ → List ℕ
+octetsOf ident (Class2 operating units range) b = telegramOf ident operating units range b
+octetsOf ident (Class4 operating units range life speed) b = blockOf operating units range life speed
+
+-- the refusal for a buffer of so many octets, in the order 7, 13, 3, 4, 5, 6
+unfoldable pub writeRefusal : Nameplate → Parameters → ℕ → ℕ
+writeRefusal n p size = plateRefusal n before when (not (eqb size (lengthOf p))) wrongBuffer before parametersRefusal n p
+
+-- the answer, and the buffer as the writer leaves it: filled, or as it was
+abbrev pub written : Nameplate → Parameters → List ℕ → Written
+written n p b = answer Refused Done (writeRefusal n p (length b))
+
+abbrev pub writtenOctets : Nameplate → Parameters → List ℕ → List ℕ
+writtenOctets n p b = answer (λ _. b) (octetsOf (n .ident) p b) (writeRefusal n p (length b))

@@ -1,3 +1,0 @@
-pub mod Printed
-pub mod Axislog
-pub mod Worthless

@@ -1,5 +1,0 @@
-pub mod SensorLaws
-pub mod ShorterWay
-pub mod PlaceLaws
-pub mod TravelLaws
-pub mod BatchLaws

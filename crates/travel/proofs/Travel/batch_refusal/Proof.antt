@@ -1,9 +1,0 @@
-use borrow.Author.Needs.{needs}
-use Rattle.travel.proofs.BatchLaws.{numbers}
-use Rattle.travel.proofs.Travel.batch_refusal.Statement.{statement}
-use Rattle.travel.proofs.Travel.batch_refusal.Tie as tie
-
-pub batch-refusal-spec : {M : Type 1} → statement M
-batch-refusal-spec =
-    tie.close
-    (tie.spec (λ c κs. search needs) (λ c κs. search needs) (λ c. search (needs, numbers)) (λ c. search (needs, numbers)) (λ c κs. search (needs, numbers)) (λ c. search (needs, numbers)))
