@@ -1,34 +1,18 @@
 -- THE THEOREM (document 01, "The distance rule", demand 3): what is claimed of every program in specs/Claim.antt holds of ours. By the list of
 -- calls: the start stands beside the opened ledger, and each call again beside the ledger that has noted it.
 -- Assumes nothing.
-use mathlib.Core.Path.{_≡_}
-use mathlib.Core.List.{List, [], _∷_}
-use Prim.Native.Nat.{ℕ, _<_}
-use lib.Dec.{leb}
-use lib.IntN.{ℤ}
-use Rattle.encoder.specs.Plate.{capacityOf}
-use Rattle.encoder.specs.Refusal.{wrongTurn, when}
-use Rattle.encoder.specs.Rows.{refusalOn}
-use Rattle.encoder.proofs.RefusalLaws.{before-none}
-use Rattle.sensor.specs.Raw.{stepRefusal}
-use Rattle.sensor.proofs.ReadingLaws.{reading-lt}
-use Rattle.axis_shaft.specs.Rules.{started}
-use Rattle.axis.specs.declared.Axis.{Axis}
-use Rattle.axis.specs.Limits.{rulesOn}
-use Rattle.axis.specs.Reading.{fresh, startRefusal, start, startRawRefusal, startRaw}
-use Rattle.axis.proofs.AxisLaws.{Limits}
-use Rattle.axis.proofs.PositionLaws.{reported-is}
-use Rattle.axis.proofs.LimitsKept.{begun-kept, number-lt}
-use Rattle.cyclic_link.specs.Quiet.{quiet}
-use Rattle.accuracy.specs.Calls.{First, firstReading, firstNumber}
-use Rattle.accuracy.specs.Ledger.{Device, force, startBy, firstRaw}
-use Rattle.accuracy.specs.Claim.{Event, Accurate, Claim}
-use Rattle.accuracy.specs.Run.{State, begin, yields}
-use Rattle.accuracy.specs.Ours.{ours}
-use Rattle.accuracy.proofs.Kept.{kept-start}
-use Rattle.accuracy.proofs.LimitsKept.{call-kept}
-use Rattle.accuracy.proofs.Standing.{deviceOf, ledgerOf, Keeps, stands-agrees}
-use Rattle.accuracy.proofs.Steps.{done, lent}
+use Rattle.integer.specs.Base.{_≡_, List, [], _∷_, ℕ, _<_, leb, ℤ}
+use Rattle.encoder.specs.{capacityOf, wrongTurn, when, refusalOn}
+use Rattle.encoder.proofs.{before-none}
+use Rattle.sensor.specs.{stepRefusal}
+use Rattle.sensor.proofs.{reading-lt}
+use Rattle.axis_shaft.specs.{started}
+use Rattle.axis.specs.{Axis, rulesOn, fresh, startRefusal, start, startRawRefusal, startRaw}
+use Rattle.axis.proofs.{Limits, reported-is, begun-kept, number-lt}
+use Rattle.cyclic_link.specs.{quiet}
+use Rattle.accuracy.specs.{First, firstReading, firstNumber, Device, force, startBy, firstRaw, Event, Accurate, Claim.Claim, State, begin, yields, ours}
+use Rattle.accuracy.proofs.{Kept.kept-start, LimitsKept.call-kept, Standing.deviceOf, Standing.ledgerOf, Standing.Keeps, Standing.stands-agrees, Steps.done}
+use Rattle.accuracy.proofs.{Steps.lent}
 
 -- ---- the start, by step and turn or by raw number: a raw number below C, and the axis at it
 abbrev at : Device → First → Axis

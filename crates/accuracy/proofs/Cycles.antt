@@ -1,39 +1,18 @@
 -- A cycle beside a ledger. Faulty, it moves nothing and makes no preset. Otherwise it is the accepted raw number and then, where the ledger has
 -- settled that one is made, the preset.
 -- Assumes nothing.
-use mathlib.Core.Path.{_≡_, refl}
-use mathlib.Core.Bool.{Bool, true, false, cond, not, _&&_, and-true, and-false}
-use mathlib.Core.List.{List, [], _∷_}
-use Prim.Native.Nat.{ℕ, zero, suc}
-use native.Mathlib.Omega.{arith}
-use lib.Dec.{eqb}
-use lib.IntN.{ℤ, _+ℤ_}
-use borrow.Author.Tests.{ne-eqb}
-use Rattle.encoder.specs.Refusal.{answer}
-use Rattle.axis_shaft.specs.Rules.{moveRefusal, movedTo}
-use Rattle.axis.specs.Limits.{rulesOn, positionOf}
-use Rattle.axis.specs.Reading.{atRaw}
-use Rattle.axis.specs.Preset.{presetted}
-use Rattle.axis.proofs.AxisLaws.{Limits}
-use Rattle.axis.proofs.ReadingLaws.{singly}
-use Rattle.axis.proofs.PositionLaws.{reported-is}
-use Rattle.axis.proofs.LimitsKept.{raw-kept}
-use Rattle.cyclic_link.specs.declared.Preset.{Preset as Reacted}
-use Rattle.cyclic_link.specs.Class2.{asked as asked2, made as made2}
-use Rattle.cyclic_link.specs.Class4.{asked as asked4, held, made as made4}
-use Rattle.cyclic_link.specs.Classes.{reaction}
-use Rattle.cyclic.specs.Raw.{faultyAt, takenAt}
-use Rattle.cyclic.specs.Class2.{wordOf}
-use Rattle.cyclic.specs.Class4.{counted}
-use Rattle.cyclic.specs.Cycle.{class4, wordBy, linkAfter}
-use Rattle.cyclic.proofs.CycleKept.{after-is}
-use Rattle.accuracy.specs.Calls.{cycling}
-use Rattle.accuracy.specs.Ledger.{none, made, Deed, rises, preset2, preset4, cyclePreset, withReadings, put}
-use Rattle.accuracy.specs.Claim.{Supposed, Rule6, readSingly}
-use Rattle.accuracy.specs.Run.{State}
-use Rattle.accuracy.proofs.Standing.{deviceOf, ledgerOf, Keeps, Matches, onward, stands-moved, Done}
-use Rattle.accuracy.proofs.Presets.{puts-by, stands-preset}
-use Rattle.accuracy.proofs.Settled.{goes}
+use Rattle.integer.specs.Base.{_≡_, refl, Bool, true, false, cond, not, _&&_, and-true, List, [], _∷_, ℕ, zero, suc, arith, eqb, ℤ, _+ℤ_, ne-eqb}
+use Rattle.encoder.specs.{answer}
+use Rattle.axis_shaft.specs.{moveRefusal, movedTo}
+use Rattle.axis.specs.{rulesOn, positionOf, atRaw, presetted}
+use Rattle.axis.proofs.{Limits, singly, reported-is, raw-kept}
+use Rattle.cyclic_link.specs.{Preset as Reacted, Class2.asked as asked2, Class2.made as made2, Class4.asked as asked4, held, Class4.made as made4, Classes.reaction}
+use Rattle.cyclic.specs.{faultyAt, takenAt, wordOf, counted, class4, wordBy, linkAfter}
+use Rattle.cyclic.proofs.{after-is}
+use Rattle.accuracy.specs.{cycling, none, made, Deed, rises, preset2, preset4, cyclePreset, withReadings, put, Supposed, Rule6, readSingly, State}
+use Rattle.accuracy.proofs.{Standing.deviceOf, Standing.ledgerOf, Standing.Keeps, Standing.Matches, Standing.onward, Standing.stands-moved, Standing.Done}
+use Rattle.accuracy.proofs.{Presets.puts-by, Presets.stands-preset, Settled.goes}
+use mathlib.{Core.Bool.and-false}
 
 -- ---- whether a preset is made: the link's test is the ledger's, and a faulty cycle makes none
 abbrev reacts : State → List ℕ → Bool → Bool → Reacted

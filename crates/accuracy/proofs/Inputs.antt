@@ -1,24 +1,14 @@
 -- The positions in a cycle's input, read back out of the octets, are the axis' own: they are below 2^32, so that four octets hold them.
 -- Assumes nothing.
-use mathlib.Core.Path.{_≡_}
-use mathlib.Core.Bool.{true, false}
-use mathlib.Core.List.{List, _++_}
-use Prim.Native.Nat.{ℕ, _^_, _<_}
-use native.Mathlib.Omega.{arith}
-use lib.IntN.{ℤ}
-use Rattle.integer.specs.Octets.{part, bigEndian, octets}
-use Rattle.integer.proofs.Modulus.{modulo-lt}
-use Rattle.integer.proofs.Octets.{bigEndian-octets}
-use Rattle.axis_shaft.specs.Rules.{positionAt}
-use Rattle.axis.specs.declared.Axis.{Axis}
-use Rattle.axis.specs.Limits.{rulesOn, positionOf}
-use Rattle.axis.proofs.AxisLaws.{Limits}
-use Rattle.cyclic_link.specs.Class4.{zsw}
-use Rattle.cyclic.specs.Class2.{input as input2}
-use Rattle.cyclic.specs.Class4.{counted, zsw2, xist1, xist2, input as input4}
-use Rattle.cyclic.specs.Cycle.{class4, inputOf}
-use Rattle.accuracy.specs.Claim.{Shown}
-use Rattle.accuracy.specs.Run.{State}
+use Rattle.integer.specs.Base.{_≡_, true, false, List, _++_, ℕ, _^_, _<_, arith, ℤ}
+use Rattle.integer.specs.{part, bigEndian, octets}
+use Rattle.integer.proofs.{modulo-lt, bigEndian-octets}
+use Rattle.axis_shaft.specs.{positionAt}
+use Rattle.axis.specs.{Axis, rulesOn, positionOf}
+use Rattle.axis.proofs.{Limits}
+use Rattle.cyclic_link.specs.{zsw}
+use Rattle.cyclic.specs.{Class2.input as input2, counted, zsw2, xist1, xist2, Class4.input as input4, class4, inputOf}
+use Rattle.accuracy.specs.{Shown, State}
 use Rattle.accuracy.proofs.Standing.{deviceOf, ledgerOf, Keeps, stands-agrees}
 
 position-lt : (a : Axis) → Limits a → positionOf a < 256 ^ 4

@@ -1,18 +1,13 @@
 -- What holds of an axis beside its ledger, through all calls: the ledger's p is the origin of phase, offset and true travel. So the position agrees
 -- with the ledger; and start, accepted reading and preset keep it.
 -- Assumes nothing.
-use mathlib.Core.Path.{_≡_, _∙_}
-use Prim.Native.Nat.{ℕ, _*_, _%_, _<_}
-use lib.IntN.{ℤ, pos, _+ℤ_, _-ℤ_}
-use Rattle.encoder.specs.declared.effect.InForce.{InForce}
-use Rattle.encoder.specs.Force.{Sound}
-use Rattle.axis_shaft.specs.declared.Shaft.{Shaft}
-use Rattle.axis_shaft.specs.Rules.{period, oriented, started, moveOf, movedTo, unshifted, positionAt}
-use Rattle.phase.specs.Phase.{origin}
-use Rattle.phase.proofs.Place.{place-units, place-start, place-move}
+use Rattle.integer.specs.Base.{_≡_, _∙_, ℕ, _*_, _%_, _<_, ℤ, pos, _+ℤ_, _-ℤ_}
+use Rattle.phase.specs.{origin}
+use Rattle.phase.proofs.{place-units, place-start, place-move}
+use Rattle.encoder.specs.{InForce, Sound}
+use Rattle.axis_shaft.specs.{Shaft, period, oriented, started, moveOf, movedTo, unshifted, positionAt}
+use Rattle.accuracy.specs.{Device, force, Ledger.Ledger, Agrees}
 use Rattle.phase.proofs.Kept as K
-use Rattle.accuracy.specs.Ledger.{Device, force, Ledger}
-use Rattle.accuracy.specs.Claim.{Agrees}
 
 -- the phase of the record
 abbrev pub phaseOf : InForce → Shaft → ℕ

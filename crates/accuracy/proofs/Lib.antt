@@ -12,3 +12,5 @@ pub mod OneUnit
 mod Listing
 pub mod Worthless
 pub mod Worked
+pub use Accuracy.{accuracy}
+pub use OneUnit.{told}

@@ -1,14 +1,11 @@
 -- Every call on an acceptable axis leaves an acceptable one, so that 16 never comes of a record of our own making.
 -- Assumes nothing.
-use mathlib.Core.Path.{_≡_}
-use mathlib.Core.Bool.{true}
-use Rattle.axis.specs.Limits.{acceptable}
-use Rattle.axis.proofs.AxisLaws.{Limits, limits-of, accepts}
-use Rattle.axis.proofs.LimitsKept.{raw-kept, read-kept, preset-kept, store-kept}
-use Rattle.axis_batch.proofs.BatchKept.{batch-kept}
-use Rattle.cyclic.proofs.CycleKept.{cycle-kept}
-use Rattle.accuracy.specs.Calls.{Call, reading, rawReading, batching, presetting, storing, cycling}
-use Rattle.accuracy.specs.Run.{State, yields}
+use Rattle.integer.specs.Base.{_≡_, true}
+use Rattle.axis.specs.{acceptable}
+use Rattle.axis.proofs.{Limits, limits-of, accepts, raw-kept, read-kept, preset-kept, store-kept}
+use Rattle.axis_batch.proofs.{batch-kept}
+use Rattle.cyclic.proofs.{cycle-kept}
+use Rattle.accuracy.specs.{Call, reading, rawReading, batching, presetting, storing, cycling, State, yields}
 
 -- one case for each kind of call
 pub call-kept : (s : State) (c : Call) → Limits (s .axis) → Limits (yields s c .axis)

@@ -1,18 +1,12 @@
 -- What the claim says of a program on the listing's axis, first at step 8 of turn 2, which is raw number 28: of its first call, and of another after it.
 -- Assumes nothing.
-use mathlib.Core.Path.{_≡_, refl}
-use mathlib.Core.List.{[], _∷_}
-use Prim.Native.Nat.{ℕ}
-use lib.IntN.{ℤ}
-use Rattle.encoder.specs.Plate.{plateRefusal}
-use Rattle.encoder.specs.Rows.{fieldsRefusal, refusalOn}
-use Rattle.sensor.specs.Raw.{stepRefusal}
-use Rattle.axis_shaft.specs.declared.Reported.{Reported}
-use Rattle.axis.specs.Reading.{startRefusal}
-use Rattle.accuracy.specs.Calls.{First, firstReading, Call}
-use Rattle.accuracy.specs.Ledger.{Ledger, startBy, opened, deed, noted}
-use Rattle.accuracy.specs.Claim.{Program, Event, Supposed, number, Reports, Lent, Rule6, readSingly, Accurate, Claim}
-use Rattle.accuracy.specs.Worked.{listing}
+use Rattle.integer.specs.Base.{_≡_, refl, [], _∷_, ℕ, ℤ}
+use Rattle.encoder.specs.{plateRefusal, fieldsRefusal, refusalOn}
+use Rattle.sensor.specs.{stepRefusal}
+use Rattle.axis_shaft.specs.{Reported}
+use Rattle.axis.specs.{startRefusal}
+use Rattle.accuracy.specs.{First, firstReading, Call, Ledger.Ledger, startBy, opened, deed, noted, Program, Event, Supposed, number, Reports, Lent, Rule6}
+use Rattle.accuracy.specs.{readSingly, Accurate, Claim.Claim, listing}
 
 abbrev pub first : Ledger
 first = opened listing 28

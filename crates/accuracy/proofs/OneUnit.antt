@@ -1,16 +1,11 @@
 -- What it says of a position that it agrees with a ledger, in natural numbers; and that two positions which agree with one ledger are at most one unit
 -- apart around the total range, so that the claim pins a position down.
 -- Assumes nothing.
-use mathlib.Core.Path.{ap}
-use Prim.Native.Nat.{ℕ, _+_, _*_, _<_}
-use native.Mathlib.Omega.{arith}
+use Rattle.integer.specs.Base.{ap, ℕ, _+_, _*_, _<_, arith, ℤ, pos, natAbs, _-ℤ_, _*ℤ_}
+use Rattle.integer.proofs.{above, below, signed, apart, neg-is, diff-is, mul-is, abs-is}
+use Rattle.phase.proofs.{off-is}
+use Rattle.accuracy.specs.{Device, force, Ledger.Ledger, Agrees}
 use native.Mathlib.Nat as N
-use lib.IntN.{ℤ, pos, natAbs, _-ℤ_, _*ℤ_}
-use Rattle.integer.proofs.Signed.{above, below, signed, apart, neg-is, diff-is, mul-is}
-use Rattle.integer.proofs.Size.{abs-is}
-use Rattle.phase.proofs.Kept.{off-is}
-use Rattle.accuracy.specs.Ledger.{Device, force, Ledger}
-use Rattle.accuracy.specs.Claim.{Agrees}
 
 -- R × (p + w × L) + g × M and R × x lie less than R apart
 pub told : (d : Device) (l : Ledger) (x : ℕ) (a : Agrees d l x)

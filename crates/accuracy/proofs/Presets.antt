@@ -1,19 +1,11 @@
 -- A preset beside a ledger: the position is the one that rule 6 gives, and state and ledger, which then counts from it, stand beside each other
 -- again.
 -- Assumes nothing.
-use mathlib.Core.Path.{refl}
-use mathlib.Core.Bool.{Bool, true, false}
-use Prim.Native.Nat.{ℕ}
-use lib.IntN.{ℤ}
-use Rattle.axis.specs.Limits.{rulesOn, unshiftedOf, positionOf}
-use Rattle.axis.specs.Preset.{asked, presetted}
-use Rattle.axis.proofs.AxisLaws.{Limits}
-use Rattle.axis.proofs.LimitsKept.{asked-lt, put-is}
-use Rattle.accuracy.specs.Ledger.{made, put}
-use Rattle.accuracy.specs.Claim.{Rule6}
-use Rattle.accuracy.specs.Run.{State}
-use Rattle.accuracy.proofs.Kept.{kept-preset}
-use Rattle.accuracy.proofs.Standing.{deviceOf, ledgerOf, Matches, onward}
+use Rattle.integer.specs.Base.{refl, Bool, true, false, ℕ, ℤ}
+use Rattle.axis.specs.{rulesOn, unshiftedOf, positionOf, asked, presetted}
+use Rattle.axis.proofs.{Limits, asked-lt, put-is}
+use Rattle.accuracy.specs.{made, put, Rule6, State}
+use Rattle.accuracy.proofs.{Kept.kept-preset, Standing.deviceOf, Standing.ledgerOf, Standing.Matches, Standing.onward}
 
 module _ (s : State) (p : ℕ) (g : ℤ) (lim : Limits (s .axis)) (v : ℤ) where
   pub puts-by : (relative : Bool) → Rule6 (deviceOf (s .axis)) (made v relative) (positionOf (s .axis)) (positionOf (presetted (s .axis) v relative))

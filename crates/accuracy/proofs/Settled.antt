@@ -1,25 +1,17 @@
 -- The ledger's table is that of the calls: on an axis within its limits 16 does not arise, and each call is refused by the number that the ledger
 -- has settled from the arguments, and otherwise goes where its rule says.
 -- Assumes nothing.
-use mathlib.Core.Path.{_≡_, refl}
-use mathlib.Core.List.{List}
-use Prim.Native.Nat.{ℕ, zero, suc}
-use lib.IntN.{ℤ}
-use Rattle.encoder.specs.Refusal.{answer}
-use Rattle.sensor.specs.Raw.{rawOf}
-use Rattle.axis_shaft.specs.Rules.{shaftRefusal}
-use Rattle.axis_shaft.proofs.ShaftLaws.{read-refusal}
-use Rattle.axis.specs.declared.Axis.{Axis}
-use Rattle.axis.specs.Limits.{rulesOn}
-use Rattle.axis.specs.Reading.{accepted, refused, next, atRaw, readRawRefusal, readRaw, readRefusal, read}
-use Rattle.axis.specs.Preset.{presetRefusal, presetted, preset, holding, store}
-use Rattle.axis.proofs.AxisLaws.{Limits, limits-none}
-use Rattle.axis_batch.specs.Batch.{after, positionsOf, batchRefusal, batch, batchList}
-use Rattle.axis_batch.proofs.BatchLaws.{first-is}
-use Rattle.cyclic.specs.Cycle.{cycleRefusal, linkLeft, axisAfter, inputOf, done, refused as kept, cycle, cycleInput}
-use Rattle.accuracy.specs.Calls.{Call, reading, rawReading, batching, presetting, storing, cycling}
-use Rattle.accuracy.specs.Ledger.{refusalBy}
-use Rattle.accuracy.specs.Run.{State, to, both, yields}
+use Rattle.integer.specs.Base.{_≡_, refl, List, ℕ, zero, suc, ℤ}
+use Rattle.encoder.specs.{answer}
+use Rattle.sensor.specs.{rawOf}
+use Rattle.axis_shaft.specs.{shaftRefusal}
+use Rattle.axis_shaft.proofs.{read-refusal}
+use Rattle.axis.specs.{Axis, rulesOn, accepted, refused, next, atRaw, readRawRefusal, readRaw, readRefusal, read, presetRefusal, presetted, preset, holding, store}
+use Rattle.axis.proofs.{Limits, limits-none}
+use Rattle.axis_batch.specs.{after, positionsOf, batchRefusal, batch, batchList}
+use Rattle.axis_batch.proofs.{first-is}
+use Rattle.cyclic.specs.{cycleRefusal, linkLeft, axisAfter, inputOf, done, refused as kept, cycle, cycleInput}
+use Rattle.accuracy.specs.{Call, reading, rawReading, batching, presetting, storing, cycling, refusalBy, State, to, both, yields}
 use Rattle.accuracy.proofs.Standing.{deviceOf, ledgerOf, onward}
 
 -- where a call leads that is not refused

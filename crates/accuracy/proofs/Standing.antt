@@ -1,26 +1,14 @@
 -- A state of ours beside a ledger. The state has all of the ledger but p and g, and all of the device: so a state, p and g tell both, and what is kept
 -- is one equation. What an accepted raw number leaves stands so again, and so do accepted raw numbers one after the other.
 -- Assumes nothing.
-use mathlib.Core.Path.{_≡_, refl}
-use mathlib.Core.List.{List, [], _∷_}
-use Prim.Native.Nat.{ℕ, suc}
-use lib.IntN.{ℤ, _+ℤ_}
-use Rattle.encoder.proofs.RefusalLaws.{before-none}
-use Rattle.axis_shaft.specs.Rules.{moveRefusal, movedTo}
-use Rattle.axis_shaft.specs.Batch.{refusalIn}
-use Rattle.axis.specs.declared.Axis.{Axis}
-use Rattle.axis.specs.Limits.{rulesOn, positionOf, reported}
-use Rattle.axis.specs.Reading.{atRaw}
-use Rattle.axis.proofs.AxisLaws.{Limits}
-use Rattle.axis.proofs.ReadingLaws.{singly}
-use Rattle.axis.proofs.LimitsKept.{raw-kept}
-use Rattle.axis_batch.specs.Batch.{after, positionsOf}
-use Rattle.accuracy.specs.Ledger.{Device, force, Ledger, Deed, withReadings, noted}
-use Rattle.accuracy.specs.Claim.{Shows, Supposed, Agrees, Entries, number, Rule6, readSingly}
-use Rattle.accuracy.specs.Run.{State}
-use Rattle.accuracy.specs.Ours.{ours}
-use Rattle.accuracy.proofs.Kept.{Kept, agrees, kept-move}
-use Rattle.accuracy.proofs.Supposed.{went}
+use Rattle.integer.specs.Base.{_≡_, refl, List, [], _∷_, ℕ, suc, ℤ, _+ℤ_}
+use Rattle.encoder.proofs.{before-none}
+use Rattle.axis_shaft.specs.{moveRefusal, movedTo, refusalIn}
+use Rattle.axis.specs.{Axis, rulesOn, positionOf, reported, atRaw}
+use Rattle.axis.proofs.{Limits, singly, raw-kept}
+use Rattle.axis_batch.specs.{after, positionsOf}
+use Rattle.accuracy.specs.{Device, force, Ledger.Ledger, Deed, withReadings, noted, Shows, Supposed, Agrees, Entries, number, Rule6, readSingly, State, ours}
+use Rattle.accuracy.proofs.{Kept.Kept, Kept.agrees, Kept.kept-move, Supposed.went}
 
 -- the device and the ledger of a state, p and g
 abbrev pub deviceOf : Axis → Device

@@ -1,32 +1,19 @@
 -- One call beside a ledger: whatever it was, the state stands beside the ledger that has noted it, a preset that it made is the one that rule 6
 -- gives, and each position in a lent buffer agrees with the ledger at its own moment. One case for each kind of call.
 -- Assumes nothing.
-use mathlib.Core.Path.{_≡_, refl}
-use mathlib.Core.Bool.{not}
-use mathlib.Core.List.{List, []}
-use Prim.Native.Nat.{ℕ, zero, suc}
-use lib.Dec.{eqb}
-use lib.IntN.{ℤ}
-use lib.ListN.{length}
-use Rattle.encoder.specs.Refusal.{wrongBuffer, when, answer}
-use Rattle.encoder.proofs.RefusalLaws.{before-none}
-use Rattle.sensor.specs.Raw.{rawOf}
-use Rattle.axis_shaft.specs.Rules.{moveRefusal}
-use Rattle.axis_shaft.specs.Batch.{refusalIn}
-use Rattle.axis.specs.Limits.{rulesOn, positionOf}
-use Rattle.axis.proofs.AxisLaws.{Limits}
-use Rattle.axis.proofs.PositionLaws.{reported-is}
-use Rattle.axis_batch.specs.Batch.{after, positionsOf, batchList}
-use Rattle.accuracy.specs.Calls.{Call, reading, rawReading, batching, presetting, storing, cycling}
-use Rattle.accuracy.specs.Ledger.{Device, force, Ledger, refusalBy, moves, does, deed, withReadings, noted}
-use Rattle.accuracy.specs.Claim.{Supposed, Entries, Lent, readSingly}
-use Rattle.accuracy.specs.Run.{State, yields, lentBy}
-use Rattle.accuracy.proofs.LimitsKept.{call-kept}
-use Rattle.accuracy.proofs.Standing.{deviceOf, ledgerOf, Keeps, Matches, onward, stands-moved, walked, Done}
-use Rattle.accuracy.proofs.Presets.{puts-by, stands-preset}
-use Rattle.accuracy.proofs.Settled.{goes, settled, list-is, input-is}
-use Rattle.accuracy.proofs.Cycles.{cycle-by}
-use Rattle.accuracy.proofs.Inputs.{shown}
+use Rattle.integer.specs.Base.{_≡_, refl, not, List, [], ℕ, zero, suc, eqb, ℤ, length}
+use Rattle.encoder.specs.{wrongBuffer, when, answer}
+use Rattle.encoder.proofs.{before-none}
+use Rattle.sensor.specs.{rawOf}
+use Rattle.axis_shaft.specs.{moveRefusal, refusalIn}
+use Rattle.axis.specs.{rulesOn, positionOf}
+use Rattle.axis.proofs.{Limits, reported-is}
+use Rattle.axis_batch.specs.{after, positionsOf, batchList}
+use Rattle.accuracy.specs.{Call, reading, rawReading, batching, presetting, storing, cycling, Device, force, Ledger.Ledger, refusalBy, moves, does, deed}
+use Rattle.accuracy.specs.{withReadings, noted, Supposed, Entries, Lent, readSingly, State, yields, lentBy}
+use Rattle.accuracy.proofs.{LimitsKept.call-kept, Standing.deviceOf, Standing.ledgerOf, Standing.Keeps, Standing.Matches, Standing.onward}
+use Rattle.accuracy.proofs.{Standing.stands-moved, Standing.walked, Standing.Done, Presets.puts-by, Presets.stands-preset, Settled.goes, Settled.settled}
+use Rattle.accuracy.proofs.{Settled.list-is, Settled.input-is, Cycles.cycle-by, Inputs.shown}
 
 module _ (s : State) (p : ℕ) (g : ℤ) (lim : Limits (s .axis)) (k : Keeps s p g) (m : ℕ → ℤ) where
   abbrev d : Device

@@ -1,20 +1,13 @@
 -- What is supposed of the true steps says just this: they are the d of rule 3. So an accepted reading moves the axis by the true steps; and what is
 -- supposed can be met, for every raw number that is accepted.
 -- Assumes nothing.
-use mathlib.Core.Path.{_≡_, ap}
-use mathlib.Core.List.{List, [], _∷_}
-use Prim.Native.Nat.{ℕ, zero, suc, _+_, _*_}
-use lib.IntN.{ℤ, pos, _-ℤ_, _*ℤ_}
-use Rattle.integer.specs.Modulus.{_modulo_}
-use Rattle.integer.proofs.Signed.{above, below, signed, add-is, diff-is, mul-is, of-eq}
-use Rattle.integer.proofs.Modulus.{modulo-has, modulo-alike}
-use Rattle.encoder.specs.Force.{Sound}
-use Rattle.encoder.proofs.RefusalLaws.{before-none}
-use Rattle.axis_shaft.specs.Rules.{oriented, difference, moveOf, moveRefusal}
-use Rattle.axis_shaft.specs.Batch.{refusalIn}
-use Rattle.axis_shaft.proofs.ShorterWay.{shorter-way, shorter-only}
-use Rattle.accuracy.specs.Ledger.{Device, force}
-use Rattle.accuracy.specs.Claim.{Shows, Supposed}
+use Rattle.integer.specs.Base.{_≡_, ap, List, [], _∷_, ℕ, zero, suc, _+_, _*_, ℤ, pos, _-ℤ_, _*ℤ_}
+use Rattle.integer.proofs.{above, below, signed, add-is, diff-is, mul-is, of-eq, modulo-has, modulo-alike}
+use Rattle.encoder.specs.{Sound}
+use Rattle.encoder.proofs.{before-none}
+use Rattle.axis_shaft.specs.{oriented, difference, moveOf, moveRefusal, refusalIn}
+use Rattle.axis_shaft.proofs.{shorter-way, shorter-only}
+use Rattle.accuracy.specs.{Device, force, Shows, Supposed}
 
 -- rule 3's d, for raw numbers one after the other
 abbrev pub steps : Device → ℕ → List ℕ → ℕ → ℤ

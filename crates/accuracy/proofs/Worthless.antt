@@ -1,39 +1,23 @@
 -- Worthless programs break the claim, each on the listing's axis and within two calls: where a position is reported, no whole number of ranges brings
 -- it within a unit of the exact one; where a preset is made, the position is not the one that rule 6 gives.
 -- Assumes nothing.
-use mathlib.Core.Path.{_≡_, refl}
-use mathlib.Core.Bool.{true, false}
-use mathlib.Core.List.{[], _∷_}
-use Prim.Native.Nat.{ℕ, _*_, _<_}
-use native.Mathlib.Omega.{arith}
-use lib.IntN.{ℤ, pos, natAbs}
-use Rattle.integer.specs.Modulus.{_modulo_}
-use Rattle.integer.specs.Octets.{bigEndian, octets}
-use Rattle.integer.proofs.Signed.{apart}
-use Rattle.integer.proofs.Size.{abs-is}
-use Rattle.ring.specs.Ring.{inRange}
-use Rattle.encoder.specs.Plate.{plateRefusal}
-use Rattle.encoder.specs.Rows.{fieldsRefusal, refusalOn}
-use Rattle.encoder.specs.Force.{rulesOf, rulesFit}
-use Rattle.sensor.specs.Raw.{stepRefusal}
-use Rattle.axis_shaft.specs.Rules.{inside, oriented, started, difference, shorter, moveOf, moveRefusal, movedTo, unshifted, positionAt, shaftRefusal}
-use Rattle.axis_shaft.specs.Batch.{refusalIn}
-use Rattle.axis_offset.specs.Offset.{valueRefusal}
-use Rattle.axis.specs.Limits.{rulesOn, acceptable, axisRefusal, unshiftedOf, positionOf, reported}
-use Rattle.axis.specs.Reading.{startRefusal, start, atRaw, readRawRefusal, readRaw}
-use Rattle.axis.specs.Preset.{presetRefusal, asked, presetted, preset}
-use Rattle.axis_batch.specs.Batch.{firstRefusal, positionsOf, batchRefusal, batchList}
-use Rattle.cyclic.specs.Raw.{faultyAt, takenAt}
-use Rattle.cyclic_link.specs.Class2.{made, link}
-use Rattle.cyclic.specs.Class2.{axis, input}
-use Rattle.cyclic.specs.Cycle.{lengthRefusal, cycleRefusal, linkAfter, axisAfter, inputOf, cycle, cycleInput}
-use Rattle.phase.proofs.Kept.{off-is}
-use Rattle.accuracy.specs.Calls.{Call, rawReading, batching, presetting, cycling}
-use Rattle.accuracy.specs.Ledger.{force, deed, withReadings}
-use Rattle.accuracy.specs.Claim.{Program, Supposed, off, Entries, readSingly, Accurate, Claim}
-use Rattle.accuracy.specs.Run.{library}
-use Rattle.accuracy.specs.Worthless.{at, always0, turnsAway, claimsHalfRange, ignoresReadings, ignoresPresets, copiesFirst, scalesAfresh, wrapsAtC, cutsPlace, addsRounded, alwaysAbsolute, presetsWhenFaulty, forgetsLink, showsFresh}
-use Rattle.accuracy.specs.Worked.{listing}
+use Rattle.integer.specs.Base.{_≡_, refl, true, false, [], _∷_, ℕ, _*_, _<_, arith, ℤ, pos, natAbs}
+use Rattle.integer.specs.{_modulo_, bigEndian, octets}
+use Rattle.integer.proofs.{apart, abs-is}
+use Rattle.ring.specs.{inRange}
+use Rattle.phase.proofs.{off-is}
+use Rattle.encoder.specs.{plateRefusal, fieldsRefusal, refusalOn, rulesOf, rulesFit}
+use Rattle.sensor.specs.{stepRefusal}
+use Rattle.axis_shaft.specs.{inside, oriented, started, difference, shorter, moveOf, moveRefusal, movedTo, unshifted, positionAt, shaftRefusal, refusalIn}
+use Rattle.axis_offset.specs.{valueRefusal}
+use Rattle.axis.specs.{rulesOn, acceptable, axisRefusal, unshiftedOf, positionOf, reported, startRefusal, start, atRaw, readRawRefusal, readRaw, presetRefusal}
+use Rattle.axis.specs.{asked, presetted, preset}
+use Rattle.axis_batch.specs.{firstRefusal, positionsOf, batchRefusal, batchList}
+use Rattle.cyclic_link.specs.{Class2.made, Class2.link}
+use Rattle.cyclic.specs.{faultyAt, takenAt, Class2.axis, Class2.input, lengthRefusal, cycleRefusal, linkAfter, axisAfter, inputOf, cycle, cycleInput}
+use Rattle.accuracy.specs.{Call, rawReading, batching, presetting, cycling, force, deed, withReadings, Program, Supposed, off, Entries, readSingly, Accurate}
+use Rattle.accuracy.specs.{Claim.Claim, library, at, always0, turnsAway, claimsHalfRange, ignoresReadings, ignoresPresets, copiesFirst, scalesAfresh, wrapsAtC}
+use Rattle.accuracy.specs.{cutsPlace, addsRounded, alwaysAbsolute, presetsWhenFaulty, forgetsLink, showsFresh, listing}
 use Rattle.accuracy.proofs.OneUnit.{told}
 use Rattle.accuracy.proofs.Listing.{first, there, started-there, begun, then, twice, steady, later, after, puts, lent, another}
 

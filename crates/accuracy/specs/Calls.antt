@@ -1,9 +1,6 @@
 -- The start and the calls on an axis as data: each kind with its own arguments and lent buffers, whatever their lengths and contents.
 -- Assumes nothing.
-use mathlib.Core.Bool.{Bool}
-use mathlib.Core.List.{List}
-use Prim.Native.Nat.{ℕ}
-use lib.IntN.{ℤ}
+use Rattle.integer.specs.Base.{Bool, List, ℕ, ℤ}
 
 -- a start is by the step and the turn of a first reading, or by its raw number
 pub data First : Type 0 where

@@ -15,22 +15,11 @@
 -- when the sensor begins again; one that adds rounded moves, when what it cut off comes to a unit. Worthless.antt in proofs/ refutes each of these, and
 -- Accuracy.antt proves the claim of ours.
 -- Assumes nothing.
-use mathlib.Core.Path.{_≡_}
-use mathlib.Core.Bool.{true, false}
-use mathlib.Core.List.{List, [], _∷_}
-use Prim.Native.Nat.{ℕ, suc, _*_, _<_}
-use lib.IntN.{ℤ, pos, negℤ, natAbs, _+ℤ_, _-ℤ_, _*ℤ_}
-use lib.Signed.{_<ℤ_}
-use Rattle.integer.specs.Bits.{bit}
-use Rattle.integer.specs.Modulus.{_modulo_}
-use Rattle.integer.specs.Octets.{part, bigEndian}
-use Rattle.encoder.specs.declared.nameplate.Nameplate.{Nameplate}
-use Rattle.encoder.specs.declared.parameters.Parameters.{Parameters}
-use Rattle.encoder.specs.Rows.{fieldsOf}
-use Rattle.axis_shaft.specs.Rules.{oriented}
-use Rattle.axis_shaft.specs.declared.Reported.{Reported}
-use Rattle.axis_shaft.specs.declared.Reported.the-variants.{At, Refused}
-use Rattle.cyclic.specs.Cycle.{class4}
+use Rattle.integer.specs.Base.{_≡_, true, false, List, [], _∷_, ℕ, suc, _*_, _<_, ℤ, pos, negℤ, natAbs, _+ℤ_, _-ℤ_, _*ℤ_, _<ℤ_}
+use Rattle.integer.specs.{bit, _modulo_, part, bigEndian}
+use Rattle.encoder.specs.{Nameplate, Parameters, fieldsOf}
+use Rattle.axis_shaft.specs.{oriented, Reported, At, declared.Reported.the-variants.Refused}
+use Rattle.cyclic.specs.{class4}
 use Rattle.accuracy.specs.Calls.{First, Call, reading, rawReading, batching, presetting, storing, cycling}
 use Rattle.accuracy.specs.Ledger.{Device, force, Ledger, startBy, firstRaw, opened, refusalBy, Preset, none, made, deed, withReadings, noted}
 

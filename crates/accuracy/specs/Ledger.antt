@@ -2,31 +2,17 @@
 -- accepted raw number, and one answer, the position just after a preset. It settles by the table and the rules what is accepted and whether a
 -- preset is made: it keeps the last accepted raw number, the held preset value and the link state itself, and never looks at an axis record.
 -- Assumes nothing.
-use mathlib.Core.Bool.{Bool, false, cond, not, _&&_}
-use mathlib.Core.List.{List, [], _∷_}
-use Prim.Native.Nat.{ℕ, suc}
-use lib.Dec.{eqb, ltb}
-use lib.IntN.{ℤ, pos, _+ℤ_}
-use lib.ListN.{length}
-use Rattle.encoder.specs.declared.nameplate.Nameplate.{Nameplate}
-use Rattle.encoder.specs.declared.parameters.Parameters.{Parameters}
-use Rattle.encoder.specs.declared.effect.InForce.{InForce}
-use Rattle.encoder.specs.Refusal.{wrongBuffer, when, _before_, answer}
-use Rattle.encoder.specs.Rows.{fieldsOf}
-use Rattle.encoder.specs.Force.{rulesOf}
-use Rattle.sensor.specs.Raw.{rawOf, stepRefusal}
-use Rattle.axis_shaft.specs.Rules.{oriented, moveRefusal}
-use Rattle.axis_shaft.specs.Batch.{refusalIn}
-use Rattle.axis_offset.specs.Offset.{valueRefusal}
-use Rattle.cyclic_link.specs.declared.Link.{Link}
-use Rattle.cyclic_link.specs.Quiet.{quiet}
+use Rattle.integer.specs.Base.{Bool, false, cond, not, _&&_, List, [], _∷_, ℕ, suc, eqb, ltb, ℤ, pos, _+ℤ_, length}
+use Rattle.encoder.specs.{Nameplate, Parameters, InForce, wrongBuffer, when, _before_, answer, fieldsOf, rulesOf}
+use Rattle.sensor.specs.{rawOf, stepRefusal}
+use Rattle.axis_shaft.specs.{oriented, moveRefusal, refusalIn}
+use Rattle.axis_offset.specs.{valueRefusal}
+use Rattle.axis.specs.{startRefusal, startRawRefusal}
+use Rattle.cyclic_link.specs.{Link, quiet}
+use Rattle.cyclic.specs.{wordOf, counted, class4, lengthRefusal, linkAfter}
+use Rattle.accuracy.specs.Calls.{First, firstReading, firstNumber, Call, reading, rawReading, batching, presetting, storing, cycling}
 use Rattle.cyclic_link.specs.Class2 as Class2
 use Rattle.cyclic_link.specs.Class4 as Class4
-use Rattle.cyclic.specs.Class2.{wordOf}
-use Rattle.cyclic.specs.Class4.{counted}
-use Rattle.cyclic.specs.Cycle.{class4, lengthRefusal, linkAfter}
-use Rattle.axis.specs.Reading.{startRefusal, startRawRefusal}
-use Rattle.accuracy.specs.Calls.{First, firstReading, firstNumber, Call, reading, rawReading, batching, presetting, storing, cycling}
 
 -- what the axis was started with, and what that puts in force
 pub record Device : Type 0 where

@@ -1,7 +1,6 @@
 -- The program that the theorem is of: the library. The must-fail edits ask for the theorem of a worthless program in its place.
 -- Assumes nothing.
-use Rattle.accuracy.specs.Claim.{Program}
-use Rattle.accuracy.specs.Run.{library}
+use Rattle.accuracy.specs.{Claim.Program, Run.library}
 
 abbrev pub ours : Program
 ours = library

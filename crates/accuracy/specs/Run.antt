@@ -1,20 +1,12 @@
 -- What the library makes of the calls: the definitions that its contracts cite. Axis and link record, the latter all 0 at first, go from call to
 -- call as left.
 -- Assumes nothing.
-use mathlib.Core.List.{List, []}
-use Prim.Native.Nat.{ℕ}
-use Rattle.encoder.specs.declared.nameplate.Nameplate.{Nameplate}
-use Rattle.encoder.specs.declared.parameters.Parameters.{Parameters}
-use Rattle.axis.specs.declared.Axis.{Axis}
-use Rattle.axis.specs.declared.Next.{Next}
-use Rattle.axis.specs.Limits.{reported}
-use Rattle.axis.specs.Reading.{start, startRaw, readRaw, read}
-use Rattle.axis.specs.Preset.{preset, store}
-use Rattle.axis_batch.specs.Batch.{batch, batchList}
-use Rattle.cyclic_link.specs.declared.Link.{Link}
-use Rattle.cyclic_link.specs.Quiet.{quiet}
-use Rattle.cyclic.specs.declared.Cycled.{Cycled}
-use Rattle.cyclic.specs.Cycle.{cycle, cycleInput}
+use Rattle.integer.specs.Base.{List, [], ℕ}
+use Rattle.encoder.specs.{Nameplate, Parameters}
+use Rattle.axis.specs.{Axis, Next, reported, start, startRaw, readRaw, read, preset, store}
+use Rattle.axis_batch.specs.{batch, batchList}
+use Rattle.cyclic_link.specs.{Link, quiet}
+use Rattle.cyclic.specs.{Cycled, cycle, cycleInput}
 use Rattle.accuracy.specs.Calls.{First, firstReading, firstNumber, Call, reading, rawReading, batching, presetting, storing, cycling}
 use Rattle.accuracy.specs.Claim.{Program}
 

@@ -1,17 +1,10 @@
 -- Worked runs that the claim speaks of: calls of every kind, refused ones, wraps, presets and faults among them, for class 2, for class 4, and for class
 -- 4 under block bit 2. Beside each call stands what was worked out from document 01 by hand: the position after it, p and g, and the lent list or octets.
 -- Assumes nothing.
-use mathlib.Core.Bool.{true, false}
-use mathlib.Core.List.{List, [], _∷_}
-use Prim.Native.Nat.{ℕ, zero, suc}
-use lib.IntN.{ℤ, pos, negsuc}
-use Rattle.encoder.specs.Combinations.{plate}
-use Rattle.encoder.specs.declared.parameters.Parameters.the-variants.{Class2, Class4}
-use Rattle.accuracy.specs.Calls.{firstReading, Call, reading, rawReading, batching, presetting, storing, cycling}
-use Rattle.accuracy.specs.Ledger.{Device, Ledger, deed, noted}
-use Rattle.accuracy.specs.Claim.{Event, number}
-use Rattle.accuracy.specs.Run.{State}
-use Rattle.accuracy.specs.Ours.{ours}
+use Rattle.integer.specs.Base.{true, false, List, [], _∷_, ℕ, zero, suc, ℤ, pos, negsuc}
+use Rattle.encoder.specs.{plate, Class2, Class4}
+use Rattle.accuracy.specs.{Calls.firstReading, Calls.Call, Calls.reading, Calls.rawReading, Calls.batching, Calls.presetting, Calls.storing, Calls.cycling}
+use Rattle.accuracy.specs.{Ledger.Device, Ledger.Ledger, Ledger.deed, Ledger.noted, Claim.Event, Claim.number, Run.State, Ours.ours}
 
 -- R = 10, T = 3, so C = 30; M = 3 and L = 7. Class 2, the axis of document 01's listing, counts with the raw number, class 4 against it
 abbrev pub listing : Device

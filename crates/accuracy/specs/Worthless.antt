@@ -1,24 +1,14 @@
 -- Programs that document 01 would send back ("Programs we would send back", "Traps on the bench"), each as ours but for one thing. Each breaks the
 -- claim: proofs/Worthless.antt.
 -- Assumes nothing.
-use mathlib.Core.Bool.{Bool, false, cond}
-use mathlib.Core.List.{List}
-use Prim.Native.Nat.{ℕ, _*_, _/_, _%_}
-use lib.IntN.{pos, _+ℤ_, _-ℤ_, _*ℤ_}
-use lib.ListN.{length, getD, replicate}
-use lib.Signed.{quotZ}
-use Rattle.integer.specs.Modulus.{_modulo_}
-use Rattle.axis_shaft.specs.Rules.{oriented, moveOf}
-use Rattle.axis_shaft.specs.declared.Reported.{Reported}
-use Rattle.axis_shaft.specs.declared.Reported.the-variants.{At}
-use Rattle.axis.specs.declared.Axis.{Axis}
-use Rattle.axis.specs.Limits.{rulesOn, unshiftedOf, positionOf, reported}
-use Rattle.axis.specs.Reading.{withShaft}
-use Rattle.cyclic_link.specs.Quiet.{quiet}
-use Rattle.cyclic.specs.Raw.{faultyAt}
-use Rattle.accuracy.specs.Calls.{Call, reading, rawReading, batching, presetting, storing, cycling}
-use Rattle.accuracy.specs.Claim.{Program}
-use Rattle.accuracy.specs.Run.{State, begin, yields, lentBy}
+use Rattle.integer.specs.Base.{Bool, false, cond, List, ℕ, _*_, _/_, _%_, pos, _+ℤ_, _-ℤ_, _*ℤ_, length, getD, replicate, quotZ}
+use Rattle.integer.specs.{_modulo_}
+use Rattle.axis_shaft.specs.{oriented, moveOf, Reported, At}
+use Rattle.axis.specs.{Axis, rulesOn, unshiftedOf, positionOf, reported, withShaft}
+use Rattle.cyclic_link.specs.{quiet}
+use Rattle.cyclic.specs.{faultyAt}
+use Rattle.accuracy.specs.{Calls.Call, Calls.reading, Calls.rawReading, Calls.batching, Calls.presetting, Calls.storing, Calls.cycling, Claim.Program}
+use Rattle.accuracy.specs.{Run.State, Run.begin, Run.yields, Run.lentBy}
 
 -- ---- another answer for the position
 abbrev pub at : ℕ → ℕ → Reported

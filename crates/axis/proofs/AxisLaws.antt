@@ -1,28 +1,13 @@
 -- The limits of a record as a test and as facts, each way out of the test, and the answer taken apart.
 -- Assumes nothing.
-use mathlib.Core.Path.{_≡_, sym, _∙_}
-use mathlib.Core.Bool.{Bool, true, false, _&&_}
-use Prim.Native.Nat.{ℕ, _<_}
-use native.Mathlib.Omega.{arith}
-use lib.IntN.{natAbs}
-use borrow.Author.Tests.{lt-ltb, ltb-true, eq-eqb, ne-eqb, eqb-true}
-use mir.Syntax.{w64}
-use mir.Val.{SFits, toZ, ofZ}
-use Rattle.integer.proofs.Size.{reads, fits-abs}
-use Rattle.ring.specs.Ring.{inRange}
-use Rattle.encoder.specs.declared.effect.InForce.{InForce}
-use Rattle.encoder.specs.declared.effect.Effect.{Effect}
-use Rattle.encoder.specs.declared.effect.Effect.the-variants.{Taken, Refused}
-use Rattle.encoder.specs.Refusal.{_before_, answer}
-use Rattle.encoder.specs.Rows.{refusalOn}
-use Rattle.encoder.specs.Force.{inForce}
-use Rattle.encoder.proofs.PlateLaws.{and-split}
-use Rattle.encoder.proofs.RefusalLaws.{when-none, first-no}
-use Rattle.encoder.proofs.ForceLaws.{effect-taken, effect-refused, in-force-taken, in-force-refused}
-use Rattle.axis_shaft.specs.Rules.{inside, Inside}
-use Rattle.axis_shaft.proofs.ShaftLaws.{inside-true, inside-is}
-use Rattle.axis.specs.declared.Axis.{Axis}
-use Rattle.axis.specs.Limits.{rulesOn, keeps, acceptable, axisRefusal, inForceOn, Ready}
+use Rattle.integer.specs.Base.{_≡_, sym, _∙_, Bool, true, false, _&&_, ℕ, _<_, arith, natAbs, lt-ltb, ltb-true, eq-eqb, ne-eqb, eqb-true, w64, SFits, toZ, ofZ}
+use Rattle.integer.proofs.{reads, fits-abs}
+use Rattle.ring.specs.{inRange}
+use Rattle.encoder.specs.{InForce, Effect, Taken, Refused, _before_, answer, refusalOn, inForce}
+use Rattle.encoder.proofs.{and-split, when-none, first-no, effect-taken, effect-refused, in-force-taken, in-force-refused}
+use Rattle.axis_shaft.specs.{inside, Inside}
+use Rattle.axis_shaft.proofs.{inside-true, inside-is}
+use Rattle.axis.specs.{Axis, rulesOn, keeps, acceptable, axisRefusal, inForceOn, Ready}
 
 -- ---- the test
 module _ (a : Axis) (e : Effect) where

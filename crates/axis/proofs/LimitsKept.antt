@@ -1,38 +1,20 @@
 -- Every axis that a call yields from one within its limits is within its limits: what a call changes of the record is within them by the rule that
 -- changes it. What is started is within them too, and what a refused start leaves is not.
 -- Assumes nothing.
-use mathlib.Core.Path.{_≡_, refl}
-use mathlib.Core.Bool.{Bool, true, false, not}
-use Prim.Native.Nat.{ℕ, zero, suc, _<_}
-use native.Mathlib.Omega.{arith}
+use Rattle.integer.specs.Base.{_≡_, refl, Bool, true, false, not, ℕ, zero, suc, _<_, arith, ltb, leb, ℤ, pos, natAbs, _+ℤ_, _-ℤ_, ltb-true, leb-false}
+use Rattle.integer.proofs.{signed, apart, add-is, diff-is, abs-is, modulo-lt, modulo-is}
+use Rattle.ring.specs.{inRange}
+use Rattle.encoder.specs.{Nameplate, Parameters, wrongTurn, wrongPreset, classOff, when, _before_, capacityOf, fieldsOf, refusalOn, rulesOf}
+use Rattle.encoder.proofs.{before-none, taken-sound}
+use Rattle.sensor.specs.{rawOf, stepRefusal}
+use Rattle.sensor.proofs.{reading-lt}
+use Rattle.axis_shaft.specs.{nowhere, started as shaftStarted, unshifted, positionAt, shaftRefusal}
+use Rattle.axis_shaft.proofs.{inside-is, nowhere-out, started-kept as shaft-started}
+use Rattle.axis_offset.specs.{valueRefusal}
+use Rattle.axis.specs.{Axis, Next, rulesOn, acceptable, axisRefusal, unshiftedOf, positionOf, next, fresh, startRefusal, start, startRawRefusal, startRaw}
+use Rattle.axis.specs.{atRaw, readRawRefusal, readRaw, readRefusal, read, presetRefusal, asked, presetted, preset, holding, store}
+use Rattle.axis.proofs.{AxisLaws.Limits, AxisLaws.limits-of, AxisLaws.accepts, ReadingLaws.first, ReadingLaws.at-raw-kept}
 use native.Mathlib.Nat as N
-use lib.Dec.{ltb, leb}
-use lib.IntN.{ℤ, pos, natAbs, _+ℤ_, _-ℤ_}
-use borrow.Author.Tests.{ltb-true, leb-false}
-use Rattle.integer.proofs.Signed.{signed, apart, add-is, diff-is}
-use Rattle.integer.proofs.Size.{abs-is}
-use Rattle.integer.proofs.Modulus.{modulo-lt, modulo-is}
-use Rattle.ring.specs.Ring.{inRange}
-use Rattle.encoder.specs.declared.nameplate.Nameplate.{Nameplate}
-use Rattle.encoder.specs.declared.parameters.Parameters.{Parameters}
-use Rattle.encoder.specs.Refusal.{wrongTurn, wrongPreset, classOff, when, _before_}
-use Rattle.sensor.specs.Raw.{rawOf, stepRefusal}
-use Rattle.encoder.specs.Plate.{capacityOf}
-use Rattle.encoder.specs.Rows.{fieldsOf, refusalOn}
-use Rattle.encoder.specs.Force.{rulesOf}
-use Rattle.encoder.proofs.RefusalLaws.{before-none}
-use Rattle.sensor.proofs.ReadingLaws.{reading-lt}
-use Rattle.encoder.proofs.SoundLaws.{taken-sound}
-use Rattle.axis_shaft.specs.Rules.{nowhere, started as shaftStarted, unshifted, positionAt, shaftRefusal}
-use Rattle.axis_shaft.proofs.ShaftLaws.{inside-is, nowhere-out, started-kept as shaft-started}
-use Rattle.axis_offset.specs.Offset.{valueRefusal}
-use Rattle.axis.specs.declared.Axis.{Axis}
-use Rattle.axis.specs.declared.Next.{Next}
-use Rattle.axis.specs.Limits.{rulesOn, acceptable, axisRefusal, unshiftedOf, positionOf}
-use Rattle.axis.specs.Reading.{next, fresh, startRefusal, start, startRawRefusal, startRaw, atRaw, readRawRefusal, readRaw, readRefusal, read}
-use Rattle.axis.specs.Preset.{presetRefusal, asked, presetted, preset, holding, store}
-use Rattle.axis.proofs.AxisLaws.{Limits, limits-of, accepts}
-use Rattle.axis.proofs.ReadingLaws.{first, at-raw-kept}
 
 pub apart-lt : (x y n : ℕ) → x < n → y < n → natAbs (pos x -ℤ pos y) < n
 apart-lt x y n h k = let z = pos x -ℤ pos y in omega (signed, diff-is (pos x) (pos y), abs-is z, apart z)

@@ -1,22 +1,12 @@
 -- Each way out of the answer, and that an axis within its limits has a position.
 -- Assumes nothing.
-use mathlib.Core.Path.{_≡_, sym, _∙_}
-use Prim.Native.Nat.{ℕ}
-use native.Mathlib.Omega.{arith}
-use mir.Syntax.{w64}
-use mir.Val.{toZ, ofZ}
-use Rattle.integer.proofs.Size.{reads}
-use Rattle.encoder.specs.declared.quantity.Units.{Units}
-use Rattle.encoder.specs.declared.effect.InForce.{InForce}
-use Rattle.encoder.specs.declared.effect.Effect.{Effect}
-use Rattle.encoder.specs.declared.effect.Effect.the-variants.{Refused as NotInForce}
-use Rattle.axis_shaft.specs.declared.Reported.{Reported}
-use Rattle.axis_shaft.specs.declared.Reported.the-variants.{At, Refused}
-use Rattle.axis_shaft.specs.Rules.{reportedAt}
-use Rattle.axis_shaft.proofs.ShaftLaws.{reported-is as at-is}
-use Rattle.axis.specs.declared.Axis.{Axis}
-use Rattle.axis.specs.Limits.{inForceOn, Ready, unshiftedOf, positionOf, reported}
-use Rattle.encoder.proofs.RefusalLaws.{refused-is}
+use Rattle.integer.specs.Base.{_≡_, sym, _∙_, ℕ, arith, w64, toZ, ofZ}
+use Rattle.integer.proofs.{reads}
+use Rattle.encoder.specs.{Units, InForce, Effect, Refused as NotInForce}
+use Rattle.encoder.proofs.{refused-is}
+use Rattle.axis_shaft.specs.{Reported, At, declared.Reported.the-variants.Refused, reportedAt}
+use Rattle.axis_shaft.proofs.{reported-is as at-is}
+use Rattle.axis.specs.{Axis, inForceOn, Ready, unshiftedOf, positionOf, reported}
 use Rattle.axis.proofs.AxisLaws.{Limits, limits-of, limits-none, ready-of, outside-of, stands-none, offset-fits}
 
 -- ---- the answer is that of the travel, whose limits are among those of the axis

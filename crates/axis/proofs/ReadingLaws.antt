@@ -1,36 +1,16 @@
 -- Start and reading: each way out, by the answers of the calls on that way.
 -- Assumes nothing.
-use mathlib.Core.Path.{_≡_, refl, sym, _∙_}
-use mathlib.Core.Bool.{false}
-use Prim.Native.Nat.{ℕ, zero, suc}
-use lib.Dec.{leb}
-use borrow.Author.Tests.{lt-leb}
-use Rattle.encoder.specs.declared.nameplate.Nameplate.{Nameplate}
-use Rattle.encoder.specs.declared.parameters.Parameters.{Parameters}
-use Rattle.encoder.specs.declared.effect.InForce.{InForce}
-use Rattle.encoder.specs.declared.effect.Effect.{Effect}
-use Rattle.encoder.specs.declared.effect.Effect.the-variants.{Taken, Refused as NotInForce}
-use Rattle.sensor.specs.declared.Reading.{Reading}
-use Rattle.sensor.specs.declared.Reading.the-variants.{Number, Refused as NotRead}
-use Rattle.encoder.specs.Refusal.{wrongTurn, when, _before_, answer}
-use Rattle.sensor.specs.Raw.{rawOf, stepRefusal, numbered}
-use Rattle.encoder.specs.Plate.{capacityOf}
-use Rattle.encoder.specs.Rows.{fieldsOf, refusalOn}
-use Rattle.encoder.specs.Force.{rulesOf, inForce}
-use Rattle.encoder.proofs.RefusalLaws.{refused-is, before-first}
-use Rattle.sensor.proofs.ReadingLaws.{reading-taken, reading-refused, reading-lt}
-use Rattle.encoder.proofs.ForceLaws.{in-force-taken, in-force-refused}
-use Rattle.encoder.proofs.SoundLaws.{taken-sound}
-use Rattle.axis_shaft.specs.declared.Shaft.{Shaft}
-use Rattle.axis_shaft.specs.declared.Moved.{Moved}
-use Rattle.axis_shaft.specs.declared.Moved.the-variants.{To, Refused as NotMoved}
-use Rattle.axis_shaft.specs.Rules.{nowhere, started, moveRefusal, movedTo, begun, shaftRefusal, moved}
-use Rattle.axis_shaft.proofs.SensorLaws.{raw-lt}
-use Rattle.axis_shaft.proofs.ShaftLaws.{moved-kept, read-refusal, to-taken, to-refused, begun-by}
-use Rattle.axis.specs.declared.Axis.{Axis}
-use Rattle.axis.specs.declared.Next.{Next}
-use Rattle.axis.specs.Limits.{rulesOn, axisRefusal, inForceOn, Ready}
-use Rattle.axis.specs.Reading.{accepted, refused, next, fresh, begunBy, startRefusal, start, startRawRefusal, startRaw, withShaft, atRaw, readRawRefusal, readRaw, readRefusal, read}
+pub use borrow.Author.Needs.{needs}
+use Rattle.integer.specs.Base.{_≡_, refl, sym, _∙_, false, ℕ, zero, suc, leb, lt-leb}
+use Rattle.encoder.specs.{Nameplate, Parameters, InForce, Effect, Taken, Refused as NotInForce, wrongTurn, when, _before_, answer, capacityOf, fieldsOf, refusalOn}
+use Rattle.encoder.specs.{rulesOf, inForce}
+use Rattle.encoder.proofs.{refused-is, before-first, in-force-taken, in-force-refused, taken-sound}
+use Rattle.sensor.specs.{Reading, Number, Refused as NotRead, rawOf, stepRefusal, numbered}
+use Rattle.sensor.proofs.{reading-taken, reading-refused, reading-lt}
+use Rattle.axis_shaft.specs.{Shaft, Moved, To, declared.Moved.the-variants.Refused as NotMoved, nowhere, started, moveRefusal, movedTo, begun, shaftRefusal, moved}
+use Rattle.axis_shaft.proofs.{raw-lt, moved-kept, read-refusal, to-taken, to-refused, begun-by}
+use Rattle.axis.specs.{Axis, Next, rulesOn, inForceOn, Ready, accepted, refused, next, fresh, begunBy, startRefusal, start, startRawRefusal, startRaw}
+use Rattle.axis.specs.{withShaft, atRaw, readRawRefusal, readRaw, readRefusal, read}
 use Rattle.axis.proofs.AxisLaws.{Limits, limits-none, ready-of, outside-answer, stands-none}
 
 -- ---- a raw number

@@ -1,20 +1,9 @@
 -- The axis record, its limits, and the position that it stands at (document 01, "The axis", rules 4 and 5; row 16).
 -- Assumes nothing.
-use mathlib.Core.Path.{_≡_}
-use mathlib.Core.Bool.{Bool, true, not, _&&_}
-use Prim.Native.Nat.{ℕ, _<_}
-use lib.Dec.{eqb}
-use lib.IntN.{natAbs}
-use Rattle.ring.specs.Ring.{inRange}
-use Rattle.encoder.specs.declared.effect.InForce.{InForce}
-use Rattle.encoder.specs.declared.effect.Effect.{Effect}
-use Rattle.encoder.specs.declared.effect.Effect.the-variants.{Taken, Refused as NotInForce}
-use Rattle.encoder.specs.Refusal.{noAxis, when, answer}
-use Rattle.encoder.specs.Rows.{fieldsOf, refusalOn}
-use Rattle.encoder.specs.Force.{rulesOf}
-use Rattle.axis_shaft.specs.declared.Reported.{Reported}
-use Rattle.axis_shaft.specs.declared.Reported.the-variants.{At, Refused}
-use Rattle.axis_shaft.specs.Rules.{inside, Inside, unshifted, positionAt}
+use Rattle.integer.specs.Base.{_≡_, Bool, true, not, _&&_, ℕ, _<_, eqb, natAbs}
+use Rattle.ring.specs.{inRange}
+use Rattle.encoder.specs.{InForce, Effect, Taken, Refused as NotInForce, noAxis, when, answer, fieldsOf, refusalOn, rulesOf}
+use Rattle.axis_shaft.specs.{Reported, At, declared.Reported.the-variants.Refused, inside, Inside, unshifted, positionAt}
 use Rattle.axis.specs.declared.Axis.{Axis}
 
 -- what is in force on an axis

@@ -1,15 +1,10 @@
 -- Presets, and the held preset value (document 01, "The axis", rule 6; "One cycle" on the held preset value).
 -- Assumes nothing.
-use mathlib.Core.Bool.{Bool, cond}
-use Prim.Native.Nat.{ℕ}
-use lib.IntN.{ℤ, pos, _+ℤ_, _-ℤ_}
-use Rattle.integer.specs.Modulus.{_modulo_}
-use Rattle.encoder.specs.Refusal.{_before_}
-use Rattle.axis_offset.specs.Offset.{valueRefusal}
-use Rattle.axis.specs.declared.Axis.{Axis}
-use Rattle.axis.specs.declared.Next.{Next}
-use Rattle.axis.specs.Limits.{rulesOn, axisRefusal, unshiftedOf, positionOf}
-use Rattle.axis.specs.Reading.{next}
+use Rattle.integer.specs.Base.{Bool, cond, ℕ, ℤ, pos, _+ℤ_, _-ℤ_}
+use Rattle.integer.specs.{_modulo_}
+use Rattle.encoder.specs.{_before_}
+use Rattle.axis_offset.specs.{valueRefusal}
+use Rattle.axis.specs.{declared.Axis.Axis, declared.Next.Next, Limits.rulesOn, Limits.axisRefusal, Limits.unshiftedOf, Limits.positionOf, Reading.next}
 
 -- 16, 12, 11
 unfoldable pub presetRefusal : Axis → ℤ → ℕ

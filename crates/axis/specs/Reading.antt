@@ -1,22 +1,10 @@
 -- Start and reading: each yields the next axis, or the axis as it was beside the number of the refusal (document 01, "The axis", rules 2 and 3).
 -- Assumes nothing.
-use Prim.Native.Nat.{ℕ}
-use lib.Dec.{leb}
-use lib.IntN.{pos}
-use Rattle.encoder.specs.declared.nameplate.Nameplate.{Nameplate}
-use Rattle.encoder.specs.declared.parameters.Parameters.{Parameters}
-use Rattle.encoder.specs.Refusal.{wrongTurn, when, _before_, answer}
-use Rattle.encoder.specs.Plate.{capacityOf}
-use Rattle.sensor.specs.Raw.{rawOf, stepRefusal}
-use Rattle.encoder.specs.Rows.{fieldsOf, refusalOn}
-use Rattle.encoder.specs.Force.{rulesOf}
-use Rattle.axis_shaft.specs.declared.Shaft.{Shaft}
-use Rattle.axis_shaft.specs.declared.Moved.{Moved}
-use Rattle.axis_shaft.specs.declared.Moved.the-variants.{To, Refused as NotMoved}
-use Rattle.axis_shaft.specs.Rules.{nowhere, started, shaftRefusal, movedTo}
-use Rattle.axis.specs.declared.Axis.{Axis}
-use Rattle.axis.specs.declared.Next.{Next}
-use Rattle.axis.specs.Limits.{rulesOn, axisRefusal}
+use Rattle.integer.specs.Base.{ℕ, leb, pos}
+use Rattle.encoder.specs.{Nameplate, Parameters, wrongTurn, when, _before_, answer, capacityOf, fieldsOf, refusalOn, rulesOf}
+use Rattle.sensor.specs.{rawOf, stepRefusal}
+use Rattle.axis_shaft.specs.{Shaft, Moved, To, declared.Moved.the-variants.Refused as NotMoved, nowhere, started, shaftRefusal, movedTo}
+use Rattle.axis.specs.{declared.Axis.Axis, declared.Next.Next, Limits.rulesOn, Limits.axisRefusal}
 
 abbrev pub accepted : Axis → Next
 accepted a = record { axis = a; refusal = 0 }

@@ -4,15 +4,15 @@ mod position;
 mod preset;
 mod reading;
 
-ghost use mathlib.Core.Path.{_≡_};
-ghost use Rattle.axis.specs.Limits.{inForceOn};
+ghost use Rattle.integer.specs.Base.{_≡_};
+ghost use Rattle.axis.specs.{inForceOn};
+use axis_shaft::Shaft;
 use encoder::effect::Effect;
 use encoder::effect::in_force;
 use encoder::nameplate::Nameplate;
 use encoder::parameters::Parameters;
 use encoder::refusal;
 use ring::between;
-use axis_shaft::Shaft;
 
 pub struct Axis {
     pub nameplate: Nameplate,

@@ -1,9 +1,9 @@
 // The position of an axis, and the unshifted one (document 01, "The axis", rules 4 and 5).
-ghost use mathlib.Core.Path.{_≡_};
-ghost use Rattle.axis.specs.Limits.{reported};
+ghost use Rattle.integer.specs.Base.{_≡_};
+ghost use Rattle.axis.specs.{reported};
 use crate::Axis;
-use encoder::effect::Effect;
 use axis_shaft::Reported;
+use encoder::effect::Effect;
 
 impl Axis {
     // Both positions.

@@ -1,15 +1,14 @@
 // Presets, and the held preset value (document 01, "The axis", rule 6). Which value is refused and what offset a preset leaves is the crate
 // shift's.
-ghost use mathlib.Core.Path.{_≡_};
-ghost use Rattle.axis.specs.Limits.{Ready};
-ghost use Rattle.axis.specs.Preset.{preset, store};
+ghost use Rattle.integer.specs.Base.{_≡_};
+ghost use Rattle.axis.specs.{Ready, preset, store};
 use crate::Axis;
 use crate::Next;
-use encoder::effect::Effect;
-use encoder::effect::InForce;
 use axis_offset::offset_by;
 use axis_offset::value_refusal;
 use axis_shaft::Reported;
+use encoder::effect::Effect;
+use encoder::effect::InForce;
 
 impl Axis {
     // The position becomes the value, or is moved by it where the preset is relative.

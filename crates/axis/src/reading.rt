@@ -1,8 +1,10 @@
 // Start and reading (document 01, "The axis", rules 1 to 4). What a reading does to the place is the crate travel's.
-ghost use mathlib.Core.Path.{_≡_};
-ghost use Rattle.axis.specs.Reading.{refused, fresh, begunBy, start, startRaw, readRaw, read};
+ghost use Rattle.integer.specs.Base.{_≡_};
+ghost use Rattle.axis.specs.{refused, fresh, begunBy, start, startRaw, readRaw, read};
 use crate::Axis;
 use crate::Next;
+use axis_shaft::Moved;
+use axis_shaft::Shaft;
 use encoder::effect::Effect;
 use encoder::effect::in_force;
 use encoder::nameplate::Nameplate;
@@ -11,8 +13,6 @@ use encoder::quantity::Steps;
 use encoder::quantity::Turns;
 use sensor::Reading;
 use sensor::raw_number;
-use axis_shaft::Moved;
-use axis_shaft::Shaft;
 
 impl Axis {
     // From a first reading. What a refused start leaves gets 16 from every call.

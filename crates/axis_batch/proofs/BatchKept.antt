@@ -1,12 +1,9 @@
 -- A batch keeps the limits: it is readings one after the other.
 -- Assumes nothing.
-use mathlib.Core.List.{List, [], _∷_}
-use Prim.Native.Nat.{ℕ}
-use Rattle.axis.specs.declared.Axis.{Axis}
-use Rattle.axis.specs.Reading.{readRaw}
-use Rattle.axis.proofs.AxisLaws.{Limits}
-use Rattle.axis.proofs.LimitsKept.{by-number, raw-kept}
-use Rattle.axis_batch.specs.Batch.{after, batchRefusal, batch}
+use Rattle.integer.specs.Base.{List, [], _∷_, ℕ}
+use Rattle.axis.specs.{Axis, readRaw}
+use Rattle.axis.proofs.{Limits, by-number, raw-kept}
+use Rattle.axis_batch.specs.{after, batchRefusal, batch}
 
 after-kept : (a : Axis) (s : List ℕ) → Limits a → Limits (after a s)
 unfolding after

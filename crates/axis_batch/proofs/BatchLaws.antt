@@ -1,34 +1,17 @@
 -- A batch of the axis is the batch of its travel: by the list of readings, each as if read singly. Then each way out.
 -- Assumes nothing.
-use mathlib.Core.Path.{_≡_, refl, sym, ap, _∙_}
-use mathlib.Core.List.{List, [], _∷_}
-use Prim.Native.Nat.{ℕ, zero, suc}
-use mathlib.Core.Bool.{not}
-use lib.Dec.{eqb}
-use lib.ListN.{length}
-use borrow.Author.Tests.{lt-ltb}
-use mir.Syntax.{w64}
-use mir.Val.{toZ, ofZ}
-use Rattle.integer.proofs.Size.{reads}
-use Rattle.ring.specs.Ring.{inRange}
-use Rattle.encoder.specs.declared.effect.InForce.{InForce}
-use Rattle.encoder.specs.declared.effect.Effect.{Effect}
-use Rattle.encoder.specs.declared.effect.Effect.the-variants.{Refused as NotInForce}
-use Rattle.encoder.specs.Refusal.{wrongBuffer, when, _before_, answer}
-use Rattle.encoder.proofs.RefusalLaws.{refused-is, before-none}
-use Rattle.axis_shaft.specs.declared.Shaft.{Shaft}
-use Rattle.axis_shaft.specs.declared.Moved.{Moved}
-use Rattle.axis_shaft.specs.declared.Moved.the-variants.{To, Refused as NotMoved}
-use Rattle.axis_shaft.specs.Rules.{movedTo, moveRefusal}
-use Rattle.axis_shaft.specs.Batch.{refusalIn, after as shaftAfter, positionsIn, batchRefusal as shaftBatchRefusal, batched, batchedList}
-use Rattle.axis_shaft.proofs.ShaftLaws.{inside-is, read-refusal, to-taken, to-refused}
-use Rattle.axis.specs.declared.Axis.{Axis}
-use Rattle.axis.specs.declared.Next.{Next}
-use Rattle.axis.specs.Limits.{rulesOn, axisRefusal, inForceOn, Ready, positionOf}
-use Rattle.axis.specs.Reading.{accepted, refused, withShaft, atRaw, readRaw}
-use Rattle.axis_batch.specs.Batch.{firstRefusal, after, positionsOf, batchRefusal, batch, batchList}
-use Rattle.axis.proofs.AxisLaws.{Limits, limits-of, ready-of, outside-answer, stands-none, offset-fits}
-use Rattle.axis.proofs.ReadingLaws.{at-raw-kept, singly}
+pub use borrow.Author.Needs.{needs}
+use Rattle.integer.specs.Base.{_≡_, refl, sym, ap, _∙_, List, [], _∷_, ℕ, zero, suc, not, eqb, length, lt-ltb, w64, toZ, ofZ}
+use Rattle.integer.proofs.{reads}
+use Rattle.ring.specs.{inRange}
+use Rattle.encoder.specs.{InForce, wrongBuffer, when, _before_, answer}
+use Rattle.encoder.proofs.{refused-is, before-none}
+use Rattle.axis_shaft.specs.{Shaft, Moved, To, declared.Moved.the-variants.Refused as NotMoved, movedTo, moveRefusal, refusalIn, after as shaftAfter, positionsIn}
+use Rattle.axis_shaft.specs.{batchRefusal as shaftBatchRefusal, batched, batchedList}
+use Rattle.axis_shaft.proofs.{inside-is, read-refusal, to-taken, to-refused}
+use Rattle.axis.specs.{Axis, Next, rulesOn, axisRefusal, Ready, positionOf, accepted, refused, withShaft, atRaw, readRaw}
+use Rattle.axis.proofs.{Limits, limits-of, ready-of, outside-answer, stands-none, offset-fits, at-raw-kept, singly}
+use Rattle.axis_batch.specs.{firstRefusal, after, positionsOf, batchRefusal, batch, batchList}
 
 -- ---- a single reading of an axis within its limits, by the refusal of its raw number
 abbrev lastOf : Axis → ℕ

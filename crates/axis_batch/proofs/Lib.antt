@@ -1,2 +1,4 @@
 pub mod BatchLaws
 pub mod BatchKept
+pub use BatchLaws.{first-is}
+pub use BatchKept.{batch-kept}

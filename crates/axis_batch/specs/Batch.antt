@@ -1,15 +1,8 @@
 -- A batch, document 01's pass: each raw number as if read singly (rule 7).
 -- Assumes nothing.
-use mathlib.Core.Bool.{not}
-use mathlib.Core.List.{List, [], _∷_}
-use Prim.Native.Nat.{ℕ}
-use lib.Dec.{eqb}
-use lib.ListN.{length}
-use Rattle.encoder.specs.Refusal.{wrongBuffer, when, _before_, answer}
-use Rattle.axis.specs.declared.Axis.{Axis}
-use Rattle.axis.specs.declared.Next.{Next}
-use Rattle.axis.specs.Limits.{axisRefusal, positionOf}
-use Rattle.axis.specs.Reading.{next, readRaw}
+use Rattle.integer.specs.Base.{not, List, [], _∷_, ℕ, eqb, length}
+use Rattle.encoder.specs.{wrongBuffer, when, _before_, answer}
+use Rattle.axis.specs.{Axis, Next, axisRefusal, positionOf, next, readRaw}
 
 -- the first refusal, entry after entry
 unfoldable pub firstRefusal : Axis → List ℕ → ℕ

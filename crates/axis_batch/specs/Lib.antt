@@ -1,1 +1,2 @@
 pub mod Batch
+unfoldable pub use Batch.{after, batch, batchList, batchRefusal, firstRefusal, positionsOf}

@@ -1,10 +1,10 @@
 // A batch, document 01's pass: raw numbers read one after the other, with the position at each ("The axis", rule 7).
-ghost use mathlib.Core.Path.{_≡_};
-ghost use Rattle.axis_batch.specs.Batch.{batch, batchList};
+ghost use Rattle.integer.specs.Base.{_≡_};
+ghost use Rattle.axis_batch.specs.{batch, batchList};
 use axis::Axis;
 use axis::Next;
-use encoder::effect::Effect;
 use axis_shaft::Moved;
+use encoder::effect::Effect;
 
 // All of the raw numbers are read, or none. What is in force is worked out once.
 pub fn batch(axis: Axis, raws: &[u32], positions: &mut [u32]) -> Next

@@ -2,21 +2,13 @@
 -- that step and turn change places. One axis refutes both, that of document 01's listing: a reading of step 4 in turn 0 is taken and moves it, and
 -- step 0 in turn 4 is refused.
 -- Assumes nothing.
-use mathlib.Core.Path.{_≡_, refl, ap}
-use Prim.Native.Nat.{ℕ}
-use native.Mathlib.Omega.{arith}
-use Rattle.integer.specs.Modulus.{_modulo_}
-use Rattle.ring.specs.Ring.{inRange}
-use Rattle.encoder.specs.Combinations.{plate}
-use Rattle.encoder.specs.declared.parameters.Parameters.the-variants.{Class2}
-use Rattle.encoder.specs.Plate.{plateRefusal}
-use Rattle.encoder.specs.Rows.{fieldsRefusal, refusalOn}
-use Rattle.encoder.specs.Force.{rulesOf, rulesFit}
-use Rattle.sensor.specs.Raw.{stepRefusal}
-use Rattle.axis_shaft.specs.Rules.{inside, oriented, started, difference, shorter, moveOf, moveRefusal, movedTo, shaftRefusal}
-use Rattle.axis.specs.declared.Axis.{Axis}
-use Rattle.axis.specs.Limits.{rulesOn, acceptable, axisRefusal}
-use Rattle.axis.specs.Reading.{startRefusal, start, atRaw, readRefusal, read}
+use Rattle.integer.specs.Base.{_≡_, refl, ap, ℕ, arith}
+use Rattle.integer.specs.{_modulo_}
+use Rattle.ring.specs.{inRange}
+use Rattle.encoder.specs.{plate, Class2, plateRefusal, fieldsRefusal, refusalOn, rulesOf, rulesFit}
+use Rattle.sensor.specs.{stepRefusal}
+use Rattle.axis_shaft.specs.{inside, oriented, started, difference, shorter, moveOf, moveRefusal, movedTo, shaftRefusal}
+use Rattle.axis.specs.{Axis, rulesOn, acceptable, axisRefusal, startRefusal, start, atRaw, readRefusal, read}
 
 -- R = 10, T = 3, M = 3, L = 7, started at step 8 in turn 2: raw number 28
 abbrev listing : Axis

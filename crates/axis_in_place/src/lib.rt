@@ -1,7 +1,7 @@
 // The reading that moves the record itself (document 01, "The axis", its last paragraph): the board's loop holds one axis record for the
 // whole shift, and lends it to each reading.
-ghost use mathlib.Core.Path.{_≡_};
-ghost use Rattle.axis.specs.Reading.{read};
+ghost use Rattle.integer.specs.Base.{_≡_};
+ghost use Rattle.axis.specs.{read};
 use axis::Axis;
 use encoder::quantity::Steps;
 use encoder::quantity::Turns;

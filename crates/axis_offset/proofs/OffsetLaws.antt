@@ -1,18 +1,13 @@
 -- Each way out of the two functions; a place on a ring of 32 bits fits, and so does its difference to a number of 32 bits.
 -- Assumes nothing.
-use mathlib.Core.Path.{_≡_, refl, _∙_}
-use mathlib.Core.Bool.{Bool, true, false, not}
-use Prim.Native.Nat.{ℕ, zero, suc, _≤_, _<_, _^_}
-use native.Mathlib.Omega.{arith}
-use lib.IntN.{ℤ, pos, _+ℤ_, _-ℤ_, +ℤ-idl}
-use mir.Syntax.{w64, w32}
-use mir.Val.{Fits, SFits, toZ, ofZ}
-use Rattle.integer.proofs.Size.{reads, fits-abs, diff-fits, diff-reads}
-use Rattle.integer.proofs.Modulus.{modulo-lt}
-use Rattle.ring.specs.Ring.{onRing, inRange}
-use Rattle.ring.proofs.RingLaws.{on-ring, on-none}
-use Rattle.encoder.specs.declared.effect.InForce.{InForce}
-use Rattle.axis_offset.specs.Offset.{valueRefusal, offsetBy}
+pub use borrow.Author.Needs.{needs}
+use Rattle.integer.specs.Base.{_≡_, refl, _∙_, Bool, true, false, not, ℕ, zero, suc, _≤_, _<_, _^_, arith, ℤ, pos, _+ℤ_, _-ℤ_, +ℤ-idl, w64, w32, Fits, SFits, toZ}
+use Rattle.integer.specs.Base.{ofZ}
+use Rattle.integer.proofs.{reads, fits-abs, diff-fits, diff-reads, modulo-lt}
+use Rattle.ring.specs.{onRing, inRange}
+use Rattle.ring.proofs.{on-ring, on-none}
+use Rattle.encoder.specs.{InForce}
+use Rattle.axis_offset.specs.{valueRefusal, offsetBy}
 
 -- ---- the refusals
 module _ (f : InForce) (v : ℤ) where

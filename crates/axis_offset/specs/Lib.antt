@@ -1,1 +1,2 @@
 pub mod Offset
+unfoldable pub use Offset.{offsetBy, valueRefusal}

@@ -1,11 +1,8 @@
 -- Presets on numbers alone (document 01, "The axis", rule 6; rows 11 and 12).
 -- Assumes nothing.
-use mathlib.Core.Bool.{Bool, cond, not}
-use Prim.Native.Nat.{ℕ}
-use lib.IntN.{ℤ, pos, _+ℤ_, _-ℤ_}
-use Rattle.ring.specs.Ring.{onRing, inRange}
-use Rattle.encoder.specs.declared.effect.InForce.{InForce}
-use Rattle.encoder.specs.Refusal.{wrongPreset, classOff, when, _before_}
+use Rattle.integer.specs.Base.{Bool, cond, not, ℕ, ℤ, pos, _+ℤ_, _-ℤ_}
+use Rattle.ring.specs.{onRing, inRange}
+use Rattle.encoder.specs.{InForce, wrongPreset, classOff, when, _before_}
 
 -- 12: class bit 0. 11: v not between −L and L, ends excluded
 unfoldable pub valueRefusal : InForce → ℤ → ℕ

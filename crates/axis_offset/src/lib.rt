@@ -1,6 +1,6 @@
 // Presets on numbers alone: which value is refused, and the offset that a preset leaves (document 01, "The axis", rule 6; rows 11 and 12).
-ghost use mathlib.Core.Path.{_≡_};
-ghost use Rattle.axis_offset.specs.Offset.{valueRefusal, offsetBy};
+ghost use Rattle.integer.specs.Base.{_≡_};
+ghost use Rattle.axis_offset.specs.{valueRefusal, offsetBy};
 use encoder::effect::InForce;
 use encoder::quantity::Units;
 use encoder::refusal;

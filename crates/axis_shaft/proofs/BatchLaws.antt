@@ -1,32 +1,16 @@
 -- The two walks of a batch, and each way out of it. Of the readings from the i-th on, the first walk keeps the refusal that is due and the
 -- second what is still to be written: at the end of the list nothing is left.
 -- Assumes nothing.
-use mathlib.Core.Path.{_≡_, refl, sym, _∙_}
-use mathlib.Core.Bool.{Bool, true, false, not, _&&_}
-use mathlib.Core.List.{List, [], _∷_, _++_, append-assoc, append-nil}
-use Prim.Native.Nat.{ℕ, zero, suc, _+_, _≤_, _<_}
-use native.Mathlib.Numerals.{add-one}
-use native.Mathlib.Omega.{arith}
-use lib.IntN.{ℤ}
-use lib.ListN.{length, getD, take, drop, set, length-set, drop-of-length-le}
-use lib.Seq.{drop-cons, take-suc-set, take-all}
-use lib.Dec.{eqb}
-use borrow.Author.Tests.{eq-eqb, ne-eqb, eqb-true, not-false}
-use mir.Syntax.{w64}
-use mir.Val.{Fits, SFits, toZ, ofZ}
-use Rattle.integer.proofs.Size.{reads}
-use Rattle.ring.specs.Ring.{inRange}
-use Rattle.encoder.specs.declared.effect.InForce.{InForce}
-use Rattle.encoder.specs.Force.{Sound}
-use Rattle.encoder.specs.Refusal.{wrongBuffer, noAxis, when, _before_}
-use Rattle.encoder.proofs.RefusalLaws.{before-first, before-none, when-none}
-use Rattle.encoder.proofs.PlateLaws.{and-split}
-use Rattle.axis_shaft.specs.declared.Shaft.{Shaft}
-
-use Rattle.axis_shaft.specs.Rules.{inside, Inside, moveOf, moveRefusal, movedTo, positionAt}
-use Rattle.axis_shaft.specs.Batch.{refusalIn, after, positionsIn, batchRefusal}
-use Rattle.axis_shaft.proofs.SensorLaws.{move-fits, raw-lt, taken-lt}
-use Rattle.axis_shaft.proofs.ShaftLaws.{inside-true, moved-kept}
+use Rattle.integer.specs.Base.{_≡_, refl, sym, _∙_, Bool, true, false, not, _&&_, List, [], _∷_, _++_, append-assoc, append-nil, ℕ, zero, suc, _+_, _≤_, _<_}
+use Rattle.integer.specs.Base.{add-one, arith, ℤ, length, getD, take, drop, set, length-set, drop-of-length-le, drop-cons, take-all, eqb, eq-eqb, ne-eqb, eqb-true}
+use Rattle.integer.specs.Base.{not-false, w64, Fits, SFits, toZ, ofZ}
+use Rattle.integer.proofs.{reads}
+use Rattle.ring.specs.{inRange}
+use Rattle.encoder.specs.{InForce, Sound, wrongBuffer, noAxis, when, _before_}
+use Rattle.encoder.proofs.{before-first, before-none, when-none, and-split}
+use Rattle.axis_shaft.specs.{Shaft, inside, Inside, moveOf, moveRefusal, movedTo, positionAt, refusalIn, after, positionsIn, batchRefusal}
+use Rattle.axis_shaft.proofs.{SensorLaws.move-fits, SensorLaws.raw-lt, SensorLaws.taken-lt, ShaftLaws.inside-true, ShaftLaws.moved-kept}
+use lib.{Seq.take-suc-set}
 
 -- ---- the first walk
 module _ (f : InForce) (s : List ℕ) (i last r : ℕ) (due : refusalIn f last (drop i s) ≡ r) where

@@ -3,3 +3,6 @@ pub mod ShorterWay
 pub mod PlaceLaws
 pub mod ShaftLaws
 pub mod BatchLaws
+pub use SensorLaws.{by-refused, by-taken, move-fits, move-most, raw-lt}
+pub use ShorterWay.{shorter-only, shorter-way}
+pub use ShaftLaws.{begun-by, inside-is, inside-true, moved-kept, nowhere-out, read-refusal, reported-is, started-kept, to-refused, to-taken}

@@ -1,23 +1,14 @@
 -- The place: R × L and its products fit the machine's words, and each function gives what its definition says.
 -- Assumes nothing.
-use mathlib.Core.Path.{_≡_, refl, _∙_}
-use Prim.Native.Nat.{ℕ, _-_, _*_, _/_, _%_, _^_, _≤_, _<_}
-use native.Mathlib.Omega.{arith}
-use native.Mathlib.Nat as N
-use lib.IntN.{ℤ, pos, _+ℤ_}
-use mir.Syntax.{w64, w32}
-use mir.Val.{Fits, SFits, toZ, ofZ}
-use Rattle.integer.specs.Modulus.{_modulo_}
-use Rattle.integer.proofs.Signed.{add-is}
-use Rattle.integer.proofs.Size.{reads}
-use Rattle.integer.proofs.Modulus.{modulo-lt, modulo-alike}
-use Rattle.ring.specs.Ring.{onRing}
-use Rattle.ring.proofs.RingLaws.{on-ring}
-use Rattle.encoder.specs.declared.effect.InForce.{InForce}
-use Rattle.encoder.specs.Force.{Sound}
-use Rattle.axis_shaft.specs.declared.Shaft.{Shaft}
-use Rattle.axis_shaft.specs.Rules.{period, Inside, moveOf, movedTo, unshifted, positionAt}
+use Rattle.integer.specs.Base.{_≡_, refl, _∙_, ℕ, _-_, _*_, _/_, _%_, _^_, _≤_, _<_, arith, ℤ, pos, _+ℤ_, w64, w32, Fits, SFits, toZ, ofZ}
+use Rattle.integer.specs.{_modulo_}
+use Rattle.integer.proofs.{add-is, reads, modulo-lt, modulo-alike}
+use Rattle.ring.specs.{onRing}
+use Rattle.ring.proofs.{on-ring}
+use Rattle.encoder.specs.{InForce, Sound}
+use Rattle.axis_shaft.specs.{Shaft, period, Inside, moveOf, movedTo, unshifted, positionAt}
 use Rattle.axis_shaft.proofs.SensorLaws.{move-fits}
+use native.Mathlib.Nat as N
 
 -- ---- R × L
 module _ (f : InForce) (s : Sound f) where

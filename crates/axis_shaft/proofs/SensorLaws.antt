@@ -1,27 +1,15 @@
 -- Raw numbers: each way out of orienting, of the difference, of the shorter way and of the approach; and that a move is at most C.
 -- Assumes nothing.
-use mathlib.Core.Path.{_≡_, refl, sym, _∙_}
-use mathlib.Core.Bool.{Bool, true, false, cond}
-use Prim.Native.Nat.{ℕ, zero, suc, _+_, _-_, _*_, _^_, _≤_, _<_}
-use native.Mathlib.Omega.{arith}
+pub use borrow.Author.Needs.{needs}
+use Rattle.integer.specs.Base.{_≡_, refl, sym, _∙_, Bool, true, false, cond, ℕ, zero, suc, _+_, _-_, _*_, _^_, _≤_, _<_, arith, ltb, leb, ℤ, pos, negℤ, natAbs, _-ℤ_}
+use Rattle.integer.specs.Base.{lt-ltb, le-ltb, le-leb, lt-leb, leb-false, w64, SFits, toZ, ofZ, toZ-pos}
+use Rattle.integer.specs.{_modulo_}
+use Rattle.integer.proofs.{signed, neg-is, diff-is, reads, abs-is, fits-abs, diff-fits, diff-reads, modulo-lt, modulo-is, modulo-alike}
+use Rattle.encoder.specs.{InForce, Sound, wrongTurn, when, answer}
+use Rattle.encoder.proofs.{refused-is, before-none, when-not}
+use Rattle.axis_shaft.specs.{Approach, By, declared.Approach.the-variants.Refused, oriented, difference, shorter, moveOf, halfRefusal, moveRefusal}
+use Rattle.axis_shaft.specs.{approachFrom}
 use native.Mathlib.Nat as N
-use lib.Dec.{ltb, leb}
-use lib.IntN.{ℤ, pos, negℤ, natAbs, _-ℤ_}
-use borrow.Author.Tests.{lt-ltb, le-ltb, le-leb, lt-leb, leb-false, eq-eqb, ne-eqb}
-use mir.Syntax.{w64}
-use mir.Val.{SFits, toZ, ofZ}
-use mir.ValLaws.{toZ-pos}
-use Rattle.integer.specs.Modulus.{_modulo_}
-use Rattle.integer.proofs.Signed.{signed, neg-is, diff-is}
-use Rattle.integer.proofs.Size.{reads, abs-is, fits-abs, diff-fits, diff-reads}
-use Rattle.integer.proofs.Modulus.{modulo-lt, modulo-is, modulo-alike}
-use Rattle.encoder.specs.declared.effect.InForce.{InForce}
-use Rattle.encoder.specs.Force.{Sound}
-use Rattle.encoder.specs.Refusal.{wrongTurn, when, answer}
-use Rattle.encoder.proofs.RefusalLaws.{refused-is, before-none, when-not}
-use Rattle.axis_shaft.specs.declared.Approach.{Approach}
-use Rattle.axis_shaft.specs.declared.Approach.the-variants.{By, Refused}
-use Rattle.axis_shaft.specs.Rules.{oriented, difference, shorter, moveOf, halfRefusal, moveRefusal, approachFrom}
 
 -- ---- 1. the oriented number
 module _ (f : InForce) (raw : ℕ) where

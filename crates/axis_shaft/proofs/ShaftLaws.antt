@@ -1,33 +1,16 @@
 -- The limits as a test and as facts, and each way out of the public functions but the batch: a law a way.
 -- Assumes nothing.
-use mathlib.Core.Path.{_≡_, refl, sym, _∙_}
-use mathlib.Core.Bool.{Bool, true, false, not, _&&_}
-use Prim.Native.Nat.{ℕ, zero, suc, _%_, _≤_, _<_}
-use native.Mathlib.Omega.{arith}
+use Rattle.integer.specs.Base.{_≡_, refl, sym, _∙_, Bool, true, false, not, _&&_, ℕ, zero, suc, _%_, _≤_, _<_, arith, ltb, leb, ℤ, not-true, not-false, lt-ltb}
+use Rattle.integer.specs.Base.{ltb-true, le-leb, lt-leb, w64, SFits, toZ, ofZ}
+use Rattle.integer.proofs.{reads, modulo-lt}
+use Rattle.encoder.specs.{Units, InForce, wrongTurn, noAxis, when, answer, rulesFit, Sound}
+use Rattle.encoder.proofs.{refused-is, before-none, when-none, and-split, sound-of, fits-of}
+use Rattle.axis_shaft.specs.{Shaft, Moved, To, declared.Moved.the-variants.Refused as NotMoved, Approach, By}
+use Rattle.axis_shaft.specs.{declared.Approach.the-variants.Refused as NotApproached, At, declared.Reported.the-variants.Refused, period, inside, Inside}
+use Rattle.axis_shaft.specs.{nowhere, oriented, started, moveOf, moveRefusal, movedTo, unshifted, positionAt, approachFrom, beginRefusal, begun, shaftRefusal}
+use Rattle.axis_shaft.specs.{approached, moved, reportedAt}
+use Rattle.axis_shaft.proofs.{SensorLaws.move-fits, SensorLaws.raw-lt, SensorLaws.by-taken, SensorLaws.by-refused, PlaceLaws.period-least}
 use native.Mathlib.Nat as N
-use lib.Dec.{ltb, leb}
-use lib.IntN.{ℤ}
-use borrow.Author.Tests.{not-true, not-false, lt-ltb, ltb-true, le-leb, lt-leb}
-use mir.Syntax.{w64}
-use mir.Val.{SFits, toZ, ofZ}
-use Rattle.integer.proofs.Size.{reads}
-use Rattle.integer.proofs.Modulus.{modulo-lt}
-use Rattle.encoder.specs.declared.quantity.Units.{Units}
-use Rattle.encoder.specs.declared.effect.InForce.{InForce}
-use Rattle.encoder.specs.Refusal.{wrongTurn, noAxis, when, answer}
-use Rattle.encoder.specs.Force.{rulesFit, Sound}
-use Rattle.encoder.proofs.RefusalLaws.{refused-is, before-none, when-none}
-use Rattle.encoder.proofs.PlateLaws.{and-split}
-use Rattle.encoder.proofs.SoundLaws.{sound-of, fits-of}
-use Rattle.axis_shaft.specs.declared.Shaft.{Shaft}
-use Rattle.axis_shaft.specs.declared.Moved.{Moved}
-use Rattle.axis_shaft.specs.declared.Moved.the-variants.{To, Refused as NotMoved}
-use Rattle.axis_shaft.specs.declared.Approach.{Approach}
-use Rattle.axis_shaft.specs.declared.Approach.the-variants.{By, Refused as NotApproached}
-use Rattle.axis_shaft.specs.declared.Reported.the-variants.{At, Refused}
-use Rattle.axis_shaft.specs.Rules.{period, inside, Inside, nowhere, oriented, started, moveOf, moveRefusal, movedTo, unshifted, positionAt, approachFrom, beginRefusal, begun, shaftRefusal, approached, moved, reportedAt}
-use Rattle.axis_shaft.proofs.SensorLaws.{move-fits, raw-lt, by-taken, by-refused}
-use Rattle.axis_shaft.proofs.PlaceLaws.{period-least}
 
 -- ---- the limits
 pub inside-true : (f : InForce) (k : Shaft) → inside f k ≡ true → Inside f k
@@ -118,15 +101,7 @@ module _ (f : InForce) (k : Shaft) (b : Bool) where
     unfolding approached approachFrom shaftRefusal
     approached-on e e-is t b-is = e-is ∙ rw (← b-is, not-false b t)
 
-pub ruleset readings = (
-  inside-sound,
-  inside-last,
-  inside-by,
-  reported-16,
-  reported-at,
-  approached-16,
-  approached-on,
-)
+pub ruleset readings = (inside-sound, inside-last, inside-by, reported-16, reported-at, approached-16, approached-on)
 
 -- ---- a move, by the approach e
 module _ (f : InForce) (k : Shaft) (raw : ℕ) (e : Approach) (e-is : e ≡ approached f k raw) where

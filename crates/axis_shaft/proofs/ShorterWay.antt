@@ -1,22 +1,13 @@
 -- The move of a reading that is taken is document 01's d (rule 3): −C/2 < d < C/2, and d is the difference of the oriented numbers up to a
 -- multiple of C. Ahead by less than half the range, or back by what is left of it.
 -- Assumes nothing.
-use mathlib.Core.Path.{_≡_, refl}
-use mathlib.Core.Bool.{Bool, true, false}
-use Prim.Native.Nat.{ℕ, suc, _-_, _*_, _<_}
-use native.Mathlib.Omega.{arith}
-use lib.Dec.{eqb, ltb, leb}
-use lib.IntN.{ℤ, pos, negsuc, natAbs, _-ℤ_}
-use borrow.Author.Tests.{eqb-false, ltb-true, ltb-false}
-use Rattle.integer.specs.Modulus.{_modulo_}
-use Rattle.integer.proofs.Signed.{signed, apart, diff-is}
-use Rattle.integer.proofs.Size.{abs-is}
-use Rattle.integer.proofs.Modulus.{modulo-is}
-use Rattle.encoder.specs.declared.effect.InForce.{InForce}
-use Rattle.encoder.specs.Refusal.{wrongTurn, halfRange, when}
-use Rattle.encoder.specs.Force.{Sound}
-use Rattle.encoder.proofs.RefusalLaws.{before-none, when-not}
-use Rattle.axis_shaft.specs.Rules.{difference, shorter, moveOf, moveRefusal}
+use Rattle.integer.specs.Base.{_≡_, refl, Bool, true, false, ℕ, suc, _-_, _*_, _<_, arith, eqb, ltb, leb, ℤ, pos, negsuc, natAbs, _-ℤ_, eqb-false, ltb-true}
+use Rattle.integer.specs.Base.{ltb-false}
+use Rattle.integer.specs.{_modulo_}
+use Rattle.integer.proofs.{signed, apart, diff-is, abs-is, modulo-is}
+use Rattle.encoder.specs.{InForce, wrongTurn, halfRange, when, Sound}
+use Rattle.encoder.proofs.{before-none, when-not}
+use Rattle.axis_shaft.specs.{difference, shorter, moveOf, moveRefusal}
 use Rattle.axis_shaft.proofs.SensorLaws.{difference-lt, shorter-ahead, shorter-back}
 
 by-half : (n c : ℕ) (b : Bool) → ltb (2 * n) c ≡ b → n < c → (2 * n ≡ c → ⊥)

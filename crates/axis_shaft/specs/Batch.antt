@@ -1,18 +1,10 @@
 -- A batch, document 01's pass: a list of raw numbers, and a list of positions of the same length, each as if read singly (rule 7).
 -- Assumes nothing.
-use mathlib.Core.Bool.{not, _&&_}
-use mathlib.Core.List.{List, [], _∷_}
-use Prim.Native.Nat.{ℕ}
-use lib.Dec.{eqb}
-use lib.IntN.{ℤ}
-use lib.ListN.{length}
-use Rattle.ring.specs.Ring.{inRange}
-use Rattle.encoder.specs.declared.effect.InForce.{InForce}
-use Rattle.encoder.specs.Refusal.{wrongBuffer, noAxis, when, _before_, answer}
-use Rattle.axis_shaft.specs.declared.Shaft.{Shaft}
-use Rattle.axis_shaft.specs.declared.Moved.{Moved}
-use Rattle.axis_shaft.specs.declared.Moved.the-variants.{To, Refused}
-use Rattle.axis_shaft.specs.Rules.{inside, moveRefusal, movedTo, positionAt}
+use Rattle.integer.specs.Base.{not, _&&_, List, [], _∷_, ℕ, eqb, ℤ, length}
+use Rattle.ring.specs.{inRange}
+use Rattle.encoder.specs.{InForce, wrongBuffer, noAxis, when, _before_, answer}
+use Rattle.axis_shaft.specs.{declared.Shaft.Shaft, declared.Moved.Moved, declared.Moved.the-variants.To, declared.Moved.the-variants.Refused, Rules.inside}
+use Rattle.axis_shaft.specs.{Rules.moveRefusal, Rules.movedTo, Rules.positionAt}
 
 -- the first refusal, entry after entry
 unfoldable pub refusalIn : InForce → ℕ → List ℕ → ℕ

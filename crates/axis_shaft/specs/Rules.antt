@@ -1,20 +1,11 @@
 -- Where the shaft stands, its place and its last reading, under what is in force (document 01, "The axis", rules 1 to 5; rows 9, 10 and 16).
 -- Assumes nothing.
-use mathlib.Core.Bool.{Bool, cond, not, _&&_}
-use Prim.Native.Nat.{ℕ, _-_, _*_, _/_, _%_, _^_, _<_}
-use lib.Dec.{eqb, ltb, leb}
-use lib.IntN.{ℤ, pos, negℤ, _+ℤ_, _-ℤ_}
-use Rattle.integer.specs.Modulus.{_modulo_}
-use Rattle.encoder.specs.declared.effect.InForce.{InForce}
-use Rattle.encoder.specs.Refusal.{wrongTurn, halfRange, noAxis, when, _before_, answer}
-use Rattle.encoder.specs.Force.{rulesFit, Sound}
-use Rattle.axis_shaft.specs.declared.Shaft.{Shaft}
-use Rattle.axis_shaft.specs.declared.Moved.{Moved}
-use Rattle.axis_shaft.specs.declared.Moved.the-variants.{To, Refused as NotMoved}
-use Rattle.axis_shaft.specs.declared.Approach.{Approach}
-use Rattle.axis_shaft.specs.declared.Approach.the-variants.{By, Refused as NotApproached}
-use Rattle.axis_shaft.specs.declared.Reported.{Reported}
-use Rattle.axis_shaft.specs.declared.Reported.the-variants.{At, Refused}
+use Rattle.integer.specs.Base.{Bool, cond, not, _&&_, ℕ, _-_, _*_, _/_, _%_, _^_, _<_, eqb, ltb, leb, ℤ, pos, negℤ, _+ℤ_, _-ℤ_}
+use Rattle.integer.specs.{_modulo_}
+use Rattle.encoder.specs.{InForce, wrongTurn, halfRange, noAxis, when, _before_, answer, rulesFit, Sound}
+use Rattle.axis_shaft.specs.{declared.Shaft.Shaft, declared.Moved.Moved, declared.Moved.the-variants.To, declared.Moved.the-variants.Refused as NotMoved}
+use Rattle.axis_shaft.specs.{declared.Approach.Approach, declared.Approach.the-variants.By, declared.Approach.the-variants.Refused as NotApproached}
+use Rattle.axis_shaft.specs.{declared.Reported.Reported, declared.Reported.the-variants.At, declared.Reported.the-variants.Refused}
 
 -- R × L: so many steps are a whole number of turns, and as positions a whole number of total ranges
 abbrev pub period : InForce → ℕ

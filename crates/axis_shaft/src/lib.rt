@@ -3,10 +3,9 @@
 mod place;
 mod raw;
 
-ghost use mathlib.Core.Path.{_≡_};
-ghost use Rattle.encoder.specs.Force.{rulesFit};
-ghost use Rattle.axis_shaft.specs.Rules.{inside, begun, approached, moved, reportedAt};
-ghost use Rattle.axis_shaft.specs.Batch.{batchRefusal, batched, batchedList};
+ghost use Rattle.integer.specs.Base.{_≡_};
+ghost use Rattle.encoder.specs.{rulesFit};
+ghost use Rattle.axis_shaft.specs.{inside, begun, approached, moved, reportedAt, batchRefusal, batched, batchedList};
 use encoder::effect::InForce;
 use encoder::quantity::Steps;
 use encoder::quantity::Units;

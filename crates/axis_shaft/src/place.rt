@@ -1,10 +1,7 @@
 // The place, kept modulo R x L, and the position that it stands for (document 01, "The axis", rules 3 to 5 and 7).
-ghost use mathlib.Core.Path.{_≡_};
-ghost use Prim.Native.Nat.{_<_};
-ghost use lib.ListN.{length};
-ghost use Rattle.encoder.specs.Force.{Sound};
-ghost use Rattle.axis_shaft.specs.Rules.{period, Inside, moveOf, movedTo, unshifted, positionAt};
-ghost use Rattle.axis_shaft.specs.Batch.{refusalIn, after, positionsIn};
+ghost use Rattle.integer.specs.Base.{_≡_, _<_, length};
+ghost use Rattle.encoder.specs.{Sound};
+ghost use Rattle.axis_shaft.specs.{period, Inside, moveOf, movedTo, unshifted, positionAt, refusalIn, after, positionsIn};
 use crate::Shaft;
 use crate::raw::move_to;
 use encoder::effect::InForce;

@@ -1,11 +1,8 @@
 // Raw numbers of the sensor, which begin again at 0 after C (document 01, "The axis", rules 1 and 3).
-ghost use mathlib.Core.Path.{_≡_};
-ghost use Prim.Native.Nat.{_≤_, _<_, _^_};
-ghost use lib.IntN.{pos, _-ℤ_};
-ghost use Rattle.integer.specs.Modulus.{_modulo_};
-ghost use Rattle.encoder.specs.Force.{Sound};
-ghost use Rattle.axis_shaft.specs.Rules.{oriented, difference, shorter, moveOf, halfRefusal, moveRefusal, approachFrom};
-ghost use Rattle.axis_shaft.specs.Batch.{refusalIn};
+ghost use Rattle.integer.specs.Base.{_≡_, _≤_, _<_, _^_, pos, _-ℤ_};
+ghost use Rattle.integer.specs.{_modulo_};
+ghost use Rattle.encoder.specs.{Sound};
+ghost use Rattle.axis_shaft.specs.{oriented, difference, shorter, moveOf, halfRefusal, moveRefusal, approachFrom, refusalIn};
 use crate::Approach;
 use encoder::effect::InForce;
 use encoder::quantity::Steps;

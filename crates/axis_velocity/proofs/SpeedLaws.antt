@@ -1,30 +1,16 @@
 -- Each way out of a velocity, by the answers of the calls on that way.
 -- Assumes nothing.
-use mathlib.Core.Path.{_≡_, sym}
-use Prim.Native.Nat.{ℕ, _^_, _≤_, _<_}
-use native.Mathlib.Omega.{arith}
-use lib.IntN.{ℤ, natAbs}
-use borrow.Author.Tests.{eq-eqb, ne-eqb}
-use mir.Syntax.{w64, w32}
-use mir.Val.{toZ, ofZ}
-use Rattle.integer.proofs.Size.{reads}
-use Rattle.encoder.specs.declared.effect.InForce.{InForce}
-use Rattle.encoder.specs.declared.effect.Effect.{Effect}
-use Rattle.encoder.specs.declared.effect.Effect.the-variants.{Refused as NotInForce}
-use Rattle.sensor.specs.declared.Reading.{Reading}
-use Rattle.sensor.specs.declared.Reading.the-variants.{Number, Refused as NotRead}
-use Rattle.sensor.specs.Raw.{numbered}
-use Rattle.encoder.proofs.RefusalLaws.{refused-is, before-first}
-use Rattle.sensor.proofs.ReadingLaws.{reading-taken, reading-refused}
-use Rattle.axis_shaft.specs.declared.Approach.{Approach}
-use Rattle.axis_shaft.specs.declared.Approach.the-variants.{By, Refused as NotApproached}
-use Rattle.axis_shaft.specs.Rules.{moveOf, shaftRefusal, approached}
-use Rattle.axis_shaft.proofs.SensorLaws.{move-most, move-fits, by-taken, by-refused}
-use Rattle.axis.specs.declared.Axis.{Axis}
-use Rattle.axis.specs.Limits.{inForceOn, Ready}
-use Rattle.axis.proofs.AxisLaws.{ready-of, outside-answer, stands-none}
-use Rattle.axis_velocity.specs.declared.Speed.the-variants.{At, Refused}
-use Rattle.axis_velocity.specs.Velocity.{rateOf, velocityRefusal, velocityAt}
+use Rattle.integer.specs.Base.{_≡_, sym, ℕ, _^_, _≤_, _<_, arith, ℤ, natAbs, eq-eqb, ne-eqb, w64, w32, toZ, ofZ}
+use Rattle.integer.proofs.{reads}
+use Rattle.encoder.specs.{InForce}
+use Rattle.encoder.proofs.{refused-is, before-first}
+use Rattle.sensor.specs.{Reading, Number, Refused as NotRead, numbered}
+use Rattle.sensor.proofs.{reading-taken, reading-refused}
+use Rattle.axis_shaft.specs.{Approach, By, declared.Approach.the-variants.Refused as NotApproached, moveOf, shaftRefusal, approached}
+use Rattle.axis_shaft.proofs.{move-most, move-fits, by-taken, by-refused}
+use Rattle.axis.specs.{Axis, Ready}
+use Rattle.axis.proofs.{ready-of, outside-answer, stands-none}
+use Rattle.axis_velocity.specs.{At, Refused, rateOf, velocityRefusal, velocityAt}
 use Rattle.axis_velocity.proofs.VelocityLaws.{rate-fits}
 
 pub elapsed-least : (e : ℕ) → (e ≡ 0 → ⊥) → 0 < e

@@ -1,23 +1,15 @@
 -- Velocity: products and quotient fit the machine's words by the sizes of their factors; then each way out.
 -- Assumes nothing.
-use mathlib.Core.Path.{_≡_, _∙_}
-use mathlib.Core.Bool.{true, false}
-use Prim.Native.Nat.{ℕ, _*_, _^_, _≤_, _<_}
-use native.Mathlib.Omega.{arith}
+pub use borrow.Author.Needs.{needs}
+use Rattle.integer.specs.Base.{_≡_, _∙_, true, false, ℕ, _*_, _^_, _≤_, _<_, arith, ℤ, pos, negsuc, natAbs, _*ℤ_, ltZ, quotZ, _≤ℤ_, eq-eqb, ne-eqb, w64, w32, Fits}
+use Rattle.integer.specs.Base.{SFits, toZ, ofZ, toZ-pos}
+use Rattle.integer.specs.{clamp}
+use Rattle.integer.proofs.{signed, clamp-within, reads, fits-abs, mul-le, quot-le}
+use Rattle.encoder.specs.{InForce, Sound}
+use Rattle.axis_velocity.specs.{factorOf, least, greatest, rateOf}
+use lib.{IntN.*ℤ-comm}
+use mir.{Syntax.w16}
 use native.Mathlib.Nat as N
-use lib.IntN.{ℤ, pos, negsuc, natAbs, _*ℤ_, *ℤ-comm}
-use lib.Signed.{ltZ, quotZ, _≤ℤ_}
-use borrow.Author.Tests.{eq-eqb, ne-eqb}
-use mir.Syntax.{w64, w32, w16}
-use mir.Val.{Fits, SFits, toZ, ofZ}
-use mir.ValLaws.{toZ-pos}
-use Rattle.integer.specs.Clamp.{clamp}
-use Rattle.integer.proofs.Signed.{signed}
-use Rattle.integer.proofs.Clamp.{clamp-within}
-use Rattle.integer.proofs.Size.{reads, fits-abs, mul-le, quot-le}
-use Rattle.encoder.specs.declared.effect.InForce.{InForce}
-use Rattle.encoder.specs.Force.{Sound}
-use Rattle.axis_velocity.specs.Velocity.{factorOf, least, greatest, rateOf}
 
 -- ---- what the move is multiplied by
 module _ (f : InForce) where

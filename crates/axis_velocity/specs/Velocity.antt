@@ -1,19 +1,12 @@
 -- Velocity (document 01, "Velocity"; row 14).
 -- Assumes nothing.
-use mathlib.Core.Bool.{cond}
-use Prim.Native.Nat.{ℕ, _*_}
-use lib.Dec.{eqb}
-use lib.IntN.{ℤ, pos, negsuc, _*ℤ_}
-use lib.Signed.{quotZ}
-use Rattle.integer.specs.Clamp.{clamp}
-use Rattle.encoder.specs.declared.effect.InForce.{InForce}
-use Rattle.encoder.specs.Refusal.{nothingElapsed, when, _before_, answer}
-use Rattle.sensor.specs.Raw.{rawOf, stepRefusal}
-use Rattle.axis_shaft.specs.Rules.{moveOf, shaftRefusal}
-use Rattle.axis.specs.declared.Axis.{Axis}
-use Rattle.axis.specs.Limits.{rulesOn, axisRefusal}
-use Rattle.axis_velocity.specs.declared.Speed.{Speed}
-use Rattle.axis_velocity.specs.declared.Speed.the-variants.{At, Refused}
+use Rattle.integer.specs.Base.{cond, ℕ, _*_, eqb, ℤ, pos, negsuc, _*ℤ_, quotZ}
+use Rattle.integer.specs.{clamp}
+use Rattle.encoder.specs.{InForce, nothingElapsed, when, _before_, answer}
+use Rattle.sensor.specs.{rawOf, stepRefusal}
+use Rattle.axis_shaft.specs.{moveOf, shaftRefusal}
+use Rattle.axis.specs.{Axis, rulesOn, axisRefusal}
+use Rattle.axis_velocity.specs.{declared.Speed.Speed, declared.Speed.the-variants.At, declared.Speed.the-variants.Refused}
 
 -- what the move is multiplied by: M × k for units per second, per 100 ms and per 10 ms (speed unit 0, 1, 2: k = 1000, 100, 10), and 60000 for
 -- turns per minute (3); class 2 uses unit 0

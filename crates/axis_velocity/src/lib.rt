@@ -1,12 +1,11 @@
 // How fast the shaft runs, from a new reading and the time since the last one (document 01, "Velocity").
-ghost use mathlib.Core.Path.{_≡_};
-ghost use Prim.Native.Nat.{_<_, _≤_, _^_};
-ghost use lib.IntN.{natAbs};
-ghost use Rattle.integer.specs.Clamp.{clamp};
-ghost use Rattle.encoder.specs.Force.{Sound};
-ghost use Rattle.axis.specs.Limits.{Ready};
-ghost use Rattle.axis_velocity.specs.Velocity.{factorOf, least, greatest, rateOf, velocityAt};
+ghost use Rattle.integer.specs.Base.{_≡_, _<_, _≤_, _^_, natAbs};
+ghost use Rattle.integer.specs.{clamp};
+ghost use Rattle.encoder.specs.{Sound};
+ghost use Rattle.axis.specs.{Ready};
+ghost use Rattle.axis_velocity.specs.{factorOf, least, greatest, rateOf, velocityAt};
 use axis::Axis;
+use axis_shaft::Approach;
 use encoder::effect::Effect;
 use encoder::effect::InForce;
 use encoder::quantity::Steps;
@@ -14,7 +13,6 @@ use encoder::quantity::Turns;
 use encoder::refusal;
 use sensor::Reading;
 use sensor::raw_number;
-use axis_shaft::Approach;
 
 pub enum Speed {
     At(i32),

@@ -1,16 +1,9 @@
 -- The octets that were read stand within their buffer.
 -- Assumes nothing.
-use mathlib.Core.Path.{_≡_, sym}
-use mathlib.Core.List.{List}
-use Prim.Native.Nat.{ℕ, _≤_}
-use native.Mathlib.Omega.{arith}
-use lib.ListN.{length, take, drop}
-use lib.Seq.{length-take-le}
-use borrow.Rule.Slice.PartMut.{putMid, same-len-mid}
-use Rattle.io.specs.Counts.{Counts}
-use Rattle.axislog.specs.declared.Input.{Input}
-use Rattle.axislog.specs.declared.Input.the-variants.{Read}
-use Rattle.axislog.specs.Input.{Within}
+pub use borrow.Author.Needs.{needs}
+use Rattle.integer.specs.Base.{_≡_, sym, List, ℕ, _≤_, arith, length, take, drop, length-take-le, putMid, same-len-mid}
+use Rattle.axislog.specs.{declared.Input.Input, Read, Within}
+use Rattle.io.{specs.Counts.Counts}
 
 pub counted : (n : ℕ) (b : List ℕ) → n ≤ length b → n ≡ length (take n b)
 counted n b h = sym (length-take-le n b h)

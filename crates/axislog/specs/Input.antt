@@ -1,10 +1,8 @@
 -- What reading standard input leaves.
 -- Assumes nothing.
-use Prim.Native.Nat.{ℕ}
-use mathlib.Core.List.{List}
-use Rattle.io.specs.Counts.{Counts}
-use Rattle.axislog.specs.declared.Input.{Input}
-use Rattle.axislog.specs.declared.Input.the-variants.{Read, Failed}
+use Rattle.integer.specs.Base.{ℕ, List}
+use Rattle.axislog.specs.{declared.Input.Input, declared.Input.the-variants.Read, declared.Input.the-variants.Failed}
+use Rattle.io.{specs.Counts.Counts}
 
 -- the octets that were read stand at the start of the buffer
 abbrev pub Within : Input → List ℕ → Type 0

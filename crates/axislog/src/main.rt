@@ -1,5 +1,5 @@
 // axislog: a log on standard input, its answers on standard output (document 01, "The program axislog").
-ghost use Rattle.axislog.specs.Input.{Within};
+ghost use Rattle.axislog.specs.{Within};
 use axislog_core::OUTPUT;
 use axislog_core::Outcome;
 use axislog_core::answer;

@@ -1,25 +1,14 @@
 -- A state of a log beside its book: a started axis stands where the library's own run stands, beside the same ledger, and all that the accuracy
 -- theorem says of that run from here on goes with it. So what the table takes shows a position that agrees; what it refuses changes nothing.
 -- Assumes nothing.
-use mathlib.Core.Path.{_≡_, refl}
-use mathlib.Core.List.{List, []}
-use Prim.Native.Nat.{ℕ, zero, suc}
-use lib.IntN.{ℤ}
-use Rattle.encoder.specs.Refusal.{answer}
-use Rattle.axis_shaft.specs.declared.Reported.{Reported}
-use Rattle.axis_shaft.specs.declared.Reported.the-variants.{At as Found, Refused as Outside}
-use Rattle.axis.specs.declared.Axis.{Axis}
-use Rattle.axis.specs.Limits.{reported}
-use Rattle.axis.specs.Reading.{next}
-use Rattle.cyclic_link.specs.Quiet.{quiet}
-use Rattle.accuracy.specs.Ledger.{Device, Ledger}
-use Rattle.accuracy.specs.Claim.{Event, Reports, Accurate}
-use Rattle.accuracy.specs.Run.{State as RunState, library}
-use Rattle.axislog_state.specs.declared.Stage.the-variants.{NoAxis, Waiting, Started}
-use Rattle.axislog_state.specs.declared.State.{State}
-use Rattle.axislog_state.specs.declared.Reply.{Reply}
-use Rattle.axislog_state.specs.Forms.{positionAnswer, position, refused, taken, after}
-use Rattle.axislog_accuracy.specs.Log.{Book, none, waiting, kept, Due, refusal, booked, Locates, Meets}
+use Rattle.integer.specs.Base.{_≡_, refl, List, [], ℕ, zero, suc, ℤ}
+use Rattle.encoder.specs.{answer}
+use Rattle.axis_shaft.specs.{Reported, At as Found, declared.Reported.the-variants.Refused as Outside}
+use Rattle.axis.specs.{Axis, reported, next}
+use Rattle.cyclic_link.specs.{quiet}
+use Rattle.accuracy.specs.{Device, Ledger.Ledger, Event, Reports, Accurate, State as RunState, library}
+use Rattle.axislog_state.specs.{NoAxis, Waiting, Started, State, Reply, positionAnswer, position, refused, taken, after}
+use Rattle.axislog_accuracy.specs.{Book, none, waiting, kept, Due, refusal, booked, Locates, Meets}
 
 -- what an axis was set up as
 abbrev pub deviceOf : Axis → Device

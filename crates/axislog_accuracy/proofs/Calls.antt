@@ -1,32 +1,18 @@
 -- A reading and a preset on a started axis. The axis is within its limits and its last raw number is the ledger's, so that it refuses a call by the
 -- table's number; where the call is taken, the library's run makes the same call and goes on beside the ledger after it.
 -- Assumes nothing.
-use mathlib.Core.Path.{_≡_, refl, ap, _∙_}
-use mathlib.Core.Bool.{Bool, true, false, not}
-use mathlib.Core.List.{List, [], _∷_}
-use Prim.Native.Nat.{ℕ}
-use lib.IntN.{ℤ}
-use Rattle.integer.specs.Modulus.{_modulo_}
-use Rattle.encoder.specs.Refusal.{noAxis, when, _before_, answer}
-use Rattle.axis_shaft.specs.declared.Reported.{Reported}
-use Rattle.axis_shaft.specs.declared.Reported.the-variants.{At as Found, Refused as Outside}
-use Rattle.axis_shaft.specs.Rules.{moveRefusal, movedTo}
-use Rattle.axis_offset.specs.Offset.{valueRefusal}
-use Rattle.axis.specs.declared.Axis.{Axis}
-use Rattle.axis.specs.Limits.{rulesOn, acceptable, axisRefusal, positionOf, unshiftedOf, reported}
-use Rattle.axis.specs.Reading.{next, atRaw, readRaw}
-use Rattle.axis.specs.Preset.{presetRefusal, presetted, preset as presetOn}
-use Rattle.axis.proofs.AxisLaws.{Limits, limits-of, limits-none}
-use Rattle.axis.proofs.ReadingLaws.{singly}
-use Rattle.accuracy.specs.Calls.{Call, rawReading, presetting}
-use Rattle.accuracy.specs.Ledger.{Device, force, Ledger, refusalBy, made, does, withReadings, put, noted}
-use Rattle.accuracy.specs.Claim.{Event, Shows, Supposed, number, Reports, Rule6, readSingly, Accurate}
-use Rattle.accuracy.specs.Run.{yields, library}
-use Rattle.axislog_forms.specs.declared.Form.the-variants.{Read, Preset}
-use Rattle.axislog_state.specs.declared.Stage.the-variants.{Started}
-use Rattle.axislog_state.specs.declared.State.{State}
-use Rattle.axislog_state.specs.Forms.{positionAnswer, position, taken, after}
-use Rattle.axislog_accuracy.specs.Log.{kept, reading, preset, due, told, Moves}
+use Rattle.integer.specs.Base.{_≡_, refl, ap, _∙_, Bool, true, false, not, List, [], _∷_, ℕ, ℤ}
+use Rattle.integer.specs.{_modulo_}
+use Rattle.encoder.specs.{noAxis, when, _before_, answer}
+use Rattle.axis_shaft.specs.{Reported, At as Found, declared.Reported.the-variants.Refused as Outside, moveRefusal, movedTo}
+use Rattle.axis_offset.specs.{valueRefusal}
+use Rattle.axis.specs.{Axis, rulesOn, acceptable, axisRefusal, positionOf, unshiftedOf, reported, next, atRaw, readRaw, presetRefusal, presetted, preset as presetOn}
+use Rattle.axis.proofs.{Limits, limits-of, limits-none, singly}
+use Rattle.accuracy.specs.{Call, rawReading, presetting, Device, force, Ledger.Ledger, refusalBy, made, does, withReadings, put, noted, Event, Shows, Supposed}
+use Rattle.accuracy.specs.{number, Reports, Rule6, readSingly, Accurate, yields, library}
+use Rattle.axislog_forms.specs.{Read, Preset}
+use Rattle.axislog_state.specs.{Started, State, positionAnswer, position, taken, after}
+use Rattle.axislog_accuracy.specs.{kept, reading, preset, due, told, Moves}
 use Rattle.axislog_accuracy.proofs.Beside.{run, Going, now, Done, stands, by-next}
 
 -- the position printed is the one reported

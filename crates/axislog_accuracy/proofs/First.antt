@@ -1,19 +1,14 @@
 -- The first reading of an axis that waits: where the table takes it, it is a start of the library's run.
 -- Assumes nothing.
-use mathlib.Core.Path.{_≡_, refl}
-use Prim.Native.Nat.{ℕ}
-use lib.IntN.{ℤ}
-use Rattle.axis_shaft.specs.Rules.{nowhere, started}
-use Rattle.axis.specs.declared.Axis.{Axis}
-use Rattle.axis.specs.Reading.{fresh, startRaw}
-use Rattle.axis.proofs.ReadingLaws.{first as firstAt}
-use Rattle.accuracy.specs.Calls.{firstNumber}
-use Rattle.accuracy.specs.Ledger.{Device, startBy, opened}
-use Rattle.accuracy.proofs.Accuracy.{accuracy}
-use Rattle.axislog_forms.specs.declared.Form.the-variants.{Read}
-use Rattle.axislog_state.specs.declared.Stage.the-variants.{Waiting}
-use Rattle.axislog_state.specs.Forms.{after}
-use Rattle.axislog_accuracy.specs.Log.{waiting, first, due}
+use Rattle.integer.specs.Base.{_≡_, refl, ℕ, ℤ}
+use Rattle.axis_shaft.specs.{nowhere, started}
+use Rattle.axis.specs.{Axis, fresh, startRaw}
+use Rattle.axis.proofs.{first as firstAt}
+use Rattle.accuracy.specs.{firstNumber, Device, startBy, opened}
+use Rattle.accuracy.proofs.{accuracy}
+use Rattle.axislog_forms.specs.{Read}
+use Rattle.axislog_state.specs.{Waiting, after}
+use Rattle.axislog_accuracy.specs.{waiting, first, due}
 use Rattle.axislog_accuracy.proofs.Beside.{deviceOf, Going, Done, stands, by-next}
 
 module _ (d : Device) (raw : ℕ) where

@@ -1,20 +1,12 @@
 -- THE THEOREM: what is claimed of every log program in specs/Printed.antt holds of axislog. Line by line, each form by its own law: state and book
 -- stand beside each other before the first line, and each line leaves them so.
 -- Assumes nothing.
-use mathlib.Core.Path.{refl}
-use mathlib.Core.List.{List, [], _∷_}
-use lib.IntN.{ℤ}
-use Rattle.encoder.specs.Rows.{refusalOn}
-use Rattle.axislog_forms.specs.declared.Form.{Form}
-use Rattle.axislog_forms.specs.declared.Form.the-variants.{Axis, Read, Preset, Nothing}
-use Rattle.axislog_forms.specs.Line.{form}
-use Rattle.axislog_state.specs.declared.State.{State}
-use Rattle.axislog_state.specs.Forms.{plateOf, parametersOf, unstarted, empty, ready, setUp, read, preset, reply}
-use Rattle.axislog_accuracy.specs.Log.{Heard, device, Book, none, waiting, kept, ready as dueReady, due, Moves, Printed, Claim}
-use Rattle.axislog_accuracy.specs.Axislog.{axislog}
-use Rattle.axislog_accuracy.proofs.Beside.{Beside, Done, by-number}
-use Rattle.axislog_accuracy.proofs.Calls.{read-done, preset-done}
-use Rattle.axislog_accuracy.proofs.First.{first-done}
+use Rattle.integer.specs.Base.{refl, List, [], _∷_, ℤ}
+use Rattle.encoder.specs.{refusalOn}
+use Rattle.axislog_forms.specs.{Form, Axis, Read, Preset, Nothing, form}
+use Rattle.axislog_state.specs.{State, plateOf, parametersOf, unstarted, empty, ready, setUp, read, preset, reply}
+use Rattle.axislog_accuracy.specs.{Heard, device, Book, none, waiting, kept, ready as dueReady, due, Moves, Printed, Claim, axislog}
+use Rattle.axislog_accuracy.proofs.{Beside.Beside, Beside.Done, Beside.by-number, Calls.read-done, Calls.preset-done, First.first-done}
 
 -- ---- any line
 line-done : (s : State) (f : Form) (b : Book) (m : ℤ) → Beside s b → Moves (due f b) m → Done (due f b) b m (reply s f)

@@ -1,31 +1,20 @@
 -- Worthless log programs break the claim, each on three lines of document 01's listing: where a position is due, none is printed, or no whole number
 -- of ranges brings it within a unit of the exact one, or after a preset it is not the one that rule 6 gives.
 -- Assumes nothing.
-use mathlib.Core.Path.{_≡_, refl}
-use mathlib.Core.List.{List, [], _∷_}
-use Prim.Native.Nat.{ℕ}
-use native.Mathlib.Omega.{arith}
-use lib.IntN.{pos}
-use Rattle.integer.specs.Modulus.{_modulo_}
-use Rattle.ring.specs.Ring.{inRange}
-use Rattle.encoder.specs.Plate.{plateRefusal}
-use Rattle.encoder.specs.Rows.{fieldsRefusal, refusalOn}
-use Rattle.encoder.specs.Force.{rulesOf, rulesFit}
-use Rattle.axis_shaft.specs.Rules.{inside, oriented, started, unshifted}
-use Rattle.axis_offset.specs.Offset.{valueRefusal}
-use Rattle.axis.specs.Limits.{rulesOn, acceptable, axisRefusal, unshiftedOf, reported}
-use Rattle.axis.specs.Reading.{startRawRefusal, startRaw}
-use Rattle.axis.specs.Preset.{presetRefusal, asked, presetted, preset as presetOn}
-use Rattle.accuracy.specs.Ledger.{opened}
-use Rattle.accuracy.specs.Worked.{listing}
-use Rattle.accuracy.proofs.OneUnit.{told as apart}
-use Rattle.axislog_lexer.specs.Word.{past, ends}
-use Rattle.axislog_lexer.specs.Number.{digitOf, digits, number, labelled, last}
-use Rattle.axislog_forms.specs.Line.{read, preset, scale, sequence, axis, form}
-use Rattle.axislog_answers.specs.declared.Answer.the-variants.{At}
-use Rattle.axislog_state.specs.Forms.{unstarted, positionAnswer, after, setUp, read as readBy, preset as presetBy, reply}
-use Rattle.axislog_accuracy.specs.Log.{Program, Heard, kept, told, Locates, Printed, Claim}
-use Rattle.axislog_accuracy.specs.Worthless.{refusesAll, always0, ignoresPresets, setup, read28, preset0}
+use Rattle.integer.specs.Base.{_≡_, refl, List, [], _∷_, ℕ, arith, pos}
+use Rattle.integer.specs.{_modulo_}
+use Rattle.ring.specs.{inRange}
+use Rattle.encoder.specs.{plateRefusal, fieldsRefusal, refusalOn, rulesOf, rulesFit}
+use Rattle.axis_shaft.specs.{inside, oriented, started, unshifted}
+use Rattle.axis_offset.specs.{valueRefusal}
+use Rattle.axis.specs.{rulesOn, acceptable, axisRefusal, unshiftedOf, reported, startRawRefusal, startRaw, presetRefusal, asked, presetted, preset as presetOn}
+use Rattle.accuracy.specs.{opened, listing}
+use Rattle.accuracy.proofs.{told as apart}
+use Rattle.axislog_lexer.specs.{past, ends, digitOf, digits, number, labelled, last}
+use Rattle.axislog_forms.specs.{read, preset, scale, sequence, axis, form}
+use Rattle.axislog_answers.specs.{At}
+use Rattle.axislog_state.specs.{unstarted, positionAnswer, after, setUp, read as readBy, preset as presetBy, reply}
+use Rattle.axislog_accuracy.specs.{Program, Heard, kept, told, Locates, Printed, Claim, refusesAll, always0, ignoresPresets, setup, read28, preset0}
 
 -- ---- the log: (axis ..), (read 28), (preset 0). The shaft need not move
 abbrev heard : List ℕ → Heard

@@ -13,24 +13,13 @@
 -- The claim is of any log program, and sees only its answer to each line. Printed.antt in proofs/ proves it of axislog; Worthless.antt
 -- there refutes it of a program that refuses every line, of one that always shows 0, and of one that ignores presets.
 -- Assumes nothing.
-use mathlib.Core.Path.{_≡_}
-use mathlib.Core.Bool.{false}
-use mathlib.Core.List.{List, [], _∷_}
-use Prim.Native.Nat.{ℕ}
-use lib.IntN.{ℤ}
-use Rattle.integer.specs.Modulus.{_modulo_}
-use Rattle.encoder.specs.Refusal.{noForm, noAxis, answer}
-use Rattle.encoder.specs.Rows.{refusalOn}
-use Rattle.accuracy.specs.Calls.{firstNumber, rawReading, presetting}
-use Rattle.accuracy.specs.Ledger.{Device, force, Ledger, startBy, opened, refusalBy, made, withReadings, put}
-use Rattle.accuracy.specs.Claim.{Shows, Agrees}
-use Rattle.axislog_forms.specs.declared.Setup.{Setup}
-use Rattle.axislog_forms.specs.declared.Form.{Form}
-use Rattle.axislog_forms.specs.declared.Form.the-variants.{Axis, Read, Preset, Nothing}
-use Rattle.axislog_forms.specs.Line.{form}
-use Rattle.axislog_answers.specs.declared.Answer.{Answer}
-use Rattle.axislog_answers.specs.declared.Answer.the-variants.{Ready, At, Refused}
-use Rattle.axislog_state.specs.Forms.{plateOf, parametersOf}
+use Rattle.integer.specs.Base.{_≡_, false, List, [], _∷_, ℕ, ℤ}
+use Rattle.integer.specs.{_modulo_}
+use Rattle.encoder.specs.{noForm, noAxis, answer, refusalOn}
+use Rattle.accuracy.specs.{firstNumber, rawReading, presetting, Device, force, Ledger.Ledger, startBy, opened, refusalBy, made, withReadings, put, Shows, Agrees}
+use Rattle.axislog_forms.specs.{Setup, Form, Axis, Read, Preset, Nothing, form}
+use Rattle.axislog_answers.specs.{Answer, Ready, At, Refused}
+use Rattle.axislog_state.specs.{plateOf, parametersOf}
 
 -- any log program: its state before the first line, its answer to a line, and its state after the line. A line is its octets without the newline
 pub record Program : Type 1 where

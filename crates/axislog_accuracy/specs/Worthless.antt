@@ -1,16 +1,12 @@
 -- Log programs that document 01 would send back ("Programs we would send back"), each as axislog but for what it prints. Each breaks the claim:
 -- proofs/Worthless.antt.
 -- Assumes nothing.
-use Prim.Native.Nat.{ℕ}
-use mathlib.Core.List.{List}
-use Rattle.integer.specs.Text.{ascii}
-use Rattle.encoder.specs.Refusal.{noForm}
-use Rattle.axis.specs.declared.Axis.{Axis}
-use Rattle.axis.specs.Limits.{unshiftedOf}
-use Rattle.axislog_answers.specs.declared.Answer.{Answer}
-use Rattle.axislog_answers.specs.declared.Answer.the-variants.{Ready, At, Refused}
-use Rattle.axislog_accuracy.specs.Log.{Program}
-use Rattle.axislog_accuracy.specs.Axislog.{axislog}
+use Rattle.integer.specs.Base.{ℕ, List}
+use Rattle.integer.specs.{ascii}
+use Rattle.encoder.specs.{noForm}
+use Rattle.axis.specs.{Axis, unshiftedOf}
+use Rattle.axislog_answers.specs.{Answer, Ready, At, Refused}
+use Rattle.axislog_accuracy.specs.{Log.Program, Axislog.axislog}
 
 -- another answer, from the axis after the line and from ours
 abbrev pub answers : (Axis → Answer → Answer) → Program

@@ -1,21 +1,12 @@
 -- Each way out of the answers: the texts of a line are copied one behind the other, the digits being the number's, and the sixteen octets hold them.
 -- Assumes nothing.
-use mathlib.Core.Path.{_≡_, sym, ap, _∙_}
-use mathlib.Core.List.{List, _++_}
-use Prim.Native.Nat.{ℕ, _+_, _-_, _≤_}
-use native.Mathlib.Omega.{arith}
-use lib.ListN.{length, take, drop, replicate, length-append}
-use borrow.Rule.Slice.PartMut.{putMid}
-use mir.Syntax.{w8, w32, w64}
-use mir.Val.{Fits}
-use Rattle.io.specs.Digits.{digits, Fewest}
-use Rattle.integer.specs.Text.{ascii}
-use Rattle.integer.proofs.Text.{over-first, over-next, part-end}
-use Rattle.axislog_answers.specs.declared.Answer.{Answer}
-use Rattle.axislog_answers.specs.declared.Answer.the-variants.{Ready, At, Refused}
-use Rattle.axislog_answers.specs.declared.Line.{Line}
-use Rattle.axislog_answers.specs.Text.{decimal, numberForm, text, held, line}
+pub use borrow.Author.Needs.{needs}
+use Rattle.integer.specs.Base.{_≡_, sym, ap, _∙_, List, _++_, ℕ, _+_, _-_, _≤_, arith, length, take, drop, replicate, length-append, putMid, w8, w32, w64, Fits}
+use Rattle.integer.specs.{ascii}
+use Rattle.integer.proofs.{over-first, over-next, part-end}
+use Rattle.axislog_answers.specs.{Answer, Ready, At, Refused, Line, decimal, numberForm, text, held, line}
 use Rattle.axislog_answers.proofs.DecimalLaws.{decimal-is, decimal-long, decimal-short}
+use Rattle.io.{specs.Digits.digits, specs.Digits.Fewest}
 
 abbrev zeros : List ℕ
 zeros = replicate 16 0
@@ -85,18 +76,4 @@ module _ (a : Answer) (r : Line) where
     unfolding line text
     line-refused e r-is = rw e r-is
 
-pub ruleset answers = (
-  fixed-is,
-  number-room,
-  end-fits,
-  end-in,
-  part-end,
-  end-room,
-  line-fits,
-  numbered-is,
-  at-room,
-  refused-room,
-  line-ready,
-  line-at,
-  line-refused,
-)
+pub ruleset answers = (fixed-is, number-room, end-fits, end-in, part-end, end-room, line-fits, numbered-is, at-room, refused-room, line-ready, line-at, line-refused)

@@ -1,19 +1,11 @@
 -- The fewest decimal digits that hold a number are its text, and how many those are. By taking off the last digit.
 -- Assumes nothing.
-use mathlib.Core.Path.{_≡_}
-use mathlib.Core.Bool.{Bool, true, false, cond}
-use mathlib.Core.List.{[], _∷_, _++_}
-use Prim.Native.Nat.{ℕ, zero, suc, _+_, _/_, _%_, _^_, _≤_, _<_}
-use native.Mathlib.Omega.{arith}
-use native.Mathlib.Nat as N
+use Rattle.integer.specs.Base.{_≡_, Bool, true, false, cond, [], _∷_, _++_, ℕ, zero, suc, _+_, _/_, _%_, _^_, _≤_, _<_, arith, ltb, length, length-append, lt-ltb}
+use Rattle.integer.specs.Base.{le-ltb, w32, Fits}
+use Rattle.axislog_answers.specs.{decimalBelow, decimal}
+use Rattle.io.{specs.Digits.digits, specs.Digits.Fewest}
 use native.Mathlib.Numerals.{sub-one}
-use lib.Dec.{ltb}
-use lib.ListN.{length, length-append}
-use borrow.Author.Tests.{lt-ltb, le-ltb}
-use mir.Syntax.{w32}
-use mir.Val.{Fits}
-use Rattle.io.specs.Digits.{digits, Fewest}
-use Rattle.axislog_answers.specs.Text.{decimalBelow, decimal}
+use native.Mathlib.Nat as N
 
 below-is : (f n k : ℕ) → k ≤ f → n < 10 ^ suc k → (0 < k → 10 ^ k ≤ n) → digits 10 (suc k) n ≡ decimalBelow (suc f) n
 unfolding decimalBelow

@@ -1,13 +1,7 @@
 -- The line of an answer, for whoever copies it: its text stands at the start of its octets.
 -- Assumes nothing.
-use mathlib.Core.Path.{_≡_, refl, sym, ap, _∙_}
-use Prim.Native.Nat.{_≤_}
-use native.Mathlib.Omega.{arith}
-use lib.ListN.{length, take, length-append}
-use lib.Seq.{take-at}
-use Rattle.axislog_answers.specs.declared.Answer.{Answer}
-use Rattle.axislog_answers.specs.declared.Line.{Line}
-use Rattle.axislog_answers.specs.Text.{text, held, line}
+use Rattle.integer.specs.Base.{_≡_, refl, sym, ap, _∙_, _≤_, arith, length, take, length-append, take-at}
+use Rattle.axislog_answers.specs.{Answer, Line, text, held, line}
 
 module _ (a : Answer) (r : Line) (r-is : r ≡ line a) where
   pub line-text : take (r .length) (r .octets) ≡ text a

@@ -1,14 +1,9 @@
 -- The answers, one a line (document 01, "The program axislog").
 -- Assumes nothing.
-use Prim.Native.Nat.{ℕ, zero, suc, _+_, _/_, _%_}
-use mathlib.Core.List.{List, [], _∷_, _++_}
-use mathlib.Core.Bool.{cond}
-use lib.Dec.{ltb}
-use lib.ListN.{length, replicate}
-use Rattle.integer.specs.Text.{ascii, over}
-use Rattle.axislog_answers.specs.declared.Answer.{Answer}
-use Rattle.axislog_answers.specs.declared.Answer.the-variants.{Ready, At, Refused}
-use Rattle.axislog_answers.specs.declared.Line.{Line}
+use Rattle.integer.specs.Base.{ℕ, zero, suc, _+_, _/_, _%_, List, [], _∷_, _++_, cond, ltb, length, replicate}
+use Rattle.integer.specs.{ascii, over}
+use Rattle.axislog_answers.specs.{declared.Answer.Answer, declared.Answer.the-variants.Ready, declared.Answer.the-variants.At}
+use Rattle.axislog_answers.specs.{declared.Answer.the-variants.Refused, declared.Line.Line}
 
 -- a number below 10 ^ f in decimal
 unfoldable pub decimalBelow : ℕ → ℕ → List ℕ

@@ -1,8 +1,6 @@
 // The answers of axislog, and the line that each is printed as (document 01, "The program axislog").
-ghost use mathlib.Core.Path.{_≡_};
-ghost use Prim.Native.Nat.{_+_, _≤_};
-ghost use lib.ListN.{length};
-ghost use Rattle.axislog_answers.specs.Text.{decimal, numberForm, line, held};
+ghost use Rattle.integer.specs.Base.{_≡_, _+_, _≤_, length};
+ghost use Rattle.axislog_answers.specs.{decimal, numberForm, line, held};
 
 pub enum Answer {
     // an axis awaits its first reading

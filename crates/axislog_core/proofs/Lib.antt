@@ -1,3 +1,4 @@
 pub mod RoomLaws
 pub mod LogLaws
 pub mod OutcomeLaws
+pub use OutcomeLaws.{takings}

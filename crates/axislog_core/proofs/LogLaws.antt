@@ -1,30 +1,17 @@
 -- The lines of a log, one after another: what is written, and what the rest will answer, make up the answers to all.
 -- Assumes nothing.
-use mathlib.Core.Path.{_≡_, refl, sym, ap, _∙_}
-use mathlib.Core.List.{List, [], _∷_, _++_, append-assoc, append-nil}
-use mathlib.Core.Bool.{Bool, true, false, cond}
-use Prim.Native.Nat.{ℕ, suc, _+_, _-_, _≤_, _<_}
-use native.Mathlib.Omega.{arith}
-use lib.Dec.{eqb}
-use lib.ListN.{length, take, drop, length-drop, length-append, drop-of-length-le}
-use lib.Seq.{drop-drop, take-length}
-use borrow.Rule.Slice.PartMut.{putMid}
-use mir.Syntax.{w64}
-use mir.Val.{Fits}
-use Rattle.bytes.specs.Bytes.{indexAfter, indexOf, slice}
-use Rattle.integer.specs.Text.{over}
-use Rattle.integer.proofs.Text.{part-over, over-again}
-use Rattle.axislog_forms.specs.declared.Form.{Form}
-use Rattle.axislog_forms.specs.Line.{form}
-use Rattle.axislog_answers.specs.declared.Answer.{Answer}
-use Rattle.axislog_answers.specs.declared.Line.{Line}
-use Rattle.axislog_answers.specs.Text.{text, line}
-use Rattle.axislog_answers.proofs.LineLaws.{line-text, line-in, line-cut}
-use Rattle.axislog_state.specs.declared.State.{State}
-use Rattle.axislog_state.specs.declared.Reply.{Reply}
-use Rattle.axislog_state.specs.Forms.{empty, reply}
-use Rattle.axislog_core.specs.Log.{joined, lines, answersFrom, answers}
+pub use borrow.Author.Needs.{needs}
+use Rattle.integer.specs.Base.{_≡_, refl, sym, ap, _∙_, List, [], _∷_, _++_, append-assoc, append-nil, Bool, true, false, cond, ℕ, suc, _+_, _-_, _≤_, _<_, arith}
+use Rattle.integer.specs.Base.{eqb, length, take, drop, length-drop, length-append, drop-of-length-le, drop-drop, take-length, putMid, w64, Fits}
+use Rattle.integer.specs.{over}
+use Rattle.integer.proofs.{part-over, over-again}
+use Rattle.axislog_forms.specs.{Form, form}
+use Rattle.axislog_answers.specs.{Answer, Line, text, line}
+use Rattle.axislog_answers.proofs.{line-text, line-in, line-cut}
+use Rattle.axislog_state.specs.{State, Reply, empty, reply}
+use Rattle.axislog_core.specs.{joined, lines, answersFrom, answers}
 use Rattle.axislog_core.proofs.RoomLaws.{answers-room}
+use Rattle.bytes.{specs.Bytes.indexAfter, specs.Bytes.indexOf, specs.Bytes.slice}
 
 -- ---- the first line and the others
 lines-step : (t : List ℕ) → 0 < length t → lines t ≡ take (indexOf 10 t) t ∷ lines (drop (suc (indexOf 10 t)) t)

@@ -1,27 +1,15 @@
 -- What a call that is taken has shown of its two lengths, and that the count of the answers is within the buffer.
 -- Assumes nothing.
-use mathlib.Core.Path.{_≡_, refl, sym, _∙_}
-use mathlib.Core.List.{List}
-use mathlib.Core.Bool.{not}
-use Prim.Native.Nat.{ℕ, zero, suc, _≤_}
-use native.Mathlib.Omega.{arith}
-use lib.ListN.{length, take}
-use lib.Seq.{length-take-le}
-use lib.Dec.{eqb, ltb}
-use borrow.Author.Tests.{ltb-false, eqb-true}
-
-use Rattle.encoder.specs.Refusal.{noForm, wrongBuffer, when, answer}
-use Rattle.encoder.proofs.RefusalLaws.{before-none, when-not, when-none}
-use Rattle.axislog_core.specs.declared.Outcome.{Outcome}
-use Rattle.axislog_core.specs.declared.Outcome.the-variants.{Written, Refused}
-use Rattle.axislog_core.specs.Log.{answers, callRefusal, outcome}
+use Rattle.integer.specs.Base.{_≡_, refl, sym, _∙_, List, not, ℕ, zero, suc, _≤_, arith, length, take, length-take-le, eqb, ltb, ltb-false, eqb-true}
+use Rattle.encoder.specs.{noForm, wrongBuffer, when, answer}
+use Rattle.encoder.proofs.{before-none, when-not, when-none}
+use Rattle.axislog_core.specs.{Outcome, Written, Refused, answers, callRefusal, outcome}
 use Rattle.axislog_core.proofs.RoomLaws.{answers-room}
 
 pub call-taken : (input output n : ℕ) → n ≡ callRefusal input output → n ≡ 0 → (input ≤ 60000) × (output ≡ 780000)
 call-taken input output n n-is z =
     let h = before-none (when (ltb 60000 input) noForm) (when (not (eqb output 780000)) wrongBuffer) (sym n-is ∙ z) in
     (ltb-false _ _ (when-not _ 14 (h .0)), eqb-true _ _ (when-none _ 12 (h .1)))
-
 
 -- ---- what a caller may take from the buffer
 taken : (m n k : ℕ) → answer Refused (Written m) k ≡ Written n → (k ≡ 0) × (m ≡ n)

@@ -1,22 +1,12 @@
 -- The buffer always suffices: no line has more than thirteen octets of answer for each octet that it costs.
 -- Assumes nothing.
-use mathlib.Core.Path.{_≡_, refl}
-use mathlib.Core.List.{List, [], _∷_}
-use mathlib.Core.Bool.{Bool, true, false, cond}
-use Prim.Native.Nat.{ℕ, suc, _+_, _*_, _-_, _≤_}
-use native.Mathlib.Omega.{arith}
-use lib.Dec.{eqb}
-use lib.ListN.{length, length-append}
-use Rattle.axislog_forms.specs.declared.Form.the-variants.{Nothing}
-use Rattle.axislog_forms.specs.Line.{form}
-use Rattle.axislog_forms.proofs.ShortLaws.{form-empty, form-one}
-use Rattle.axislog_answers.specs.declared.Answer.{Answer}
-use Rattle.axislog_answers.specs.declared.Answer.the-variants.{Ready, At, Refused}
-use Rattle.axislog_answers.specs.Text.{decimalBelow, decimal, text, numberForm}
-use Rattle.axislog_answers.proofs.DecimalLaws.{decimal-long}
-use Rattle.axislog_state.specs.declared.State.{State}
-use Rattle.axislog_state.specs.Forms.{empty, reply}
-use Rattle.axislog_core.specs.Log.{joined, lines, answersFrom, answers}
+use Rattle.integer.specs.Base.{_≡_, refl, List, [], _∷_, Bool, true, false, cond, ℕ, suc, _+_, _*_, _-_, _≤_, arith, eqb, length, length-append}
+use Rattle.axislog_forms.specs.{Nothing, form}
+use Rattle.axislog_forms.proofs.{form-empty, form-one}
+use Rattle.axislog_answers.specs.{Answer, Ready, At, Refused, decimalBelow, decimal, text, numberForm}
+use Rattle.axislog_answers.proofs.{decimal-long}
+use Rattle.axislog_state.specs.{State, empty, reply}
+use Rattle.axislog_core.specs.{joined, lines, answersFrom, answers}
 
 -- ---- a line
 text-long : (a : Answer) → length (text a) ≤ 21

@@ -1,18 +1,12 @@
 -- The answers to a log, one a line (document 01, "The program axislog").
 -- Assumes nothing.
-use Prim.Native.Nat.{ℕ}
-use mathlib.Core.List.{List, [], _∷_, _++_}
-use mathlib.Core.Bool.{cond, not}
-use lib.Dec.{eqb, ltb}
-use lib.ListN.{length}
-use Rattle.integer.specs.Text.{over}
-use Rattle.encoder.specs.Refusal.{noForm, wrongBuffer, when, _before_, answer}
-use Rattle.axislog_forms.specs.Line.{form}
-use Rattle.axislog_answers.specs.Text.{text}
-use Rattle.axislog_state.specs.declared.State.{State}
-use Rattle.axislog_state.specs.Forms.{empty, reply}
-use Rattle.axislog_core.specs.declared.Outcome.{Outcome}
-use Rattle.axislog_core.specs.declared.Outcome.the-variants.{Written, Refused}
+use Rattle.integer.specs.Base.{ℕ, List, [], _∷_, _++_, cond, not, eqb, ltb, length}
+use Rattle.integer.specs.{over}
+use Rattle.encoder.specs.{noForm, wrongBuffer, when, _before_, answer}
+use Rattle.axislog_forms.specs.{form}
+use Rattle.axislog_answers.specs.{text}
+use Rattle.axislog_state.specs.{State, empty, reply}
+use Rattle.axislog_core.specs.{declared.Outcome.Outcome, declared.Outcome.the-variants.Written, declared.Outcome.the-variants.Refused}
 
 -- an octet in front of the first line; where there is none yet, it is a line
 abbrev pub joined : ℕ → List (List ℕ) → List (List ℕ)

@@ -1,18 +1,15 @@
 // What axislog answers to a log (document 01, "The program axislog").
-ghost use mathlib.Core.Path.{_≡_};
-ghost use mathlib.Core.List.{_++_};
-ghost use Prim.Native.Nat.{_+_, _≤_};
-ghost use lib.ListN.{length, take};
-ghost use Rattle.integer.specs.Text.{over};
-ghost use Rattle.axislog_answers.specs.Text.{text};
-ghost use Rattle.axislog_core.specs.Log.{answers, callRefusal, outcome, written};
+ghost use Rattle.integer.specs.Base.{_≡_, _++_, _+_, _≤_, length, take};
+ghost use Rattle.integer.specs.{over};
+ghost use Rattle.axislog_answers.specs.{text};
+ghost use Rattle.axislog_core.specs.{answers, callRefusal, outcome, written};
 use axislog_answers::Answer;
+use axislog_forms::parse;
+use axislog_state::State;
 use bytes::scan::find;
 use encoder::refusal;
 use encoder::refusal::first;
 use encoder::refusal::when;
-use axislog_forms::parse;
-use axislog_state::State;
 
 // The octets of the longest log that is answered.
 pub const INPUT: usize = 60_000;

@@ -1,27 +1,11 @@
 -- The forms, one law for each way out: its premises are the words and numbers that the way has found, or not found.
 -- Assumes nothing.
-use mathlib.Core.Path.{_≡_}
-use mathlib.Core.List.{List}
-use mathlib.Core.Bool.{Bool, true, false}
-use Prim.Native.Nat.{ℕ}
-use lib.IntN.{pos, _-ℤ_}
-use lib.ListN.{drop}
-use mir.Syntax.{w32, w64}
-use mir.Val.{Fits, SFits, toZ, ofZ}
-use mir.ValLaws.{toZ-pos}
-use native.Mathlib.Omega.{arith}
-use borrow.Author.Tests.{eq-eqb, ne-eqb}
-use Rattle.integer.proofs.Size.{diff-fits, diff-reads}
-use Rattle.integer.specs.Text.{ascii}
-use Rattle.axislog_lexer.specs.declared.number.Decimal.{Decimal}
-use Rattle.axislog_lexer.specs.declared.number.Decimal.the-variants.{Number, Nothing as NoNumber}
-use Rattle.axislog_lexer.specs.declared.word.Place.{Place}
-use Rattle.axislog_lexer.specs.declared.word.Place.the-variants.{At, Nowhere}
-use Rattle.axislog_lexer.specs.Word.{past, ends}
-use Rattle.axislog_lexer.specs.Number.{labelled, last}
-use Rattle.axislog_forms.specs.declared.Form.{Form}
-use Rattle.axislog_forms.specs.declared.Form.the-variants.{Axis, Read, Preset, Nothing}
-use Rattle.axislog_forms.specs.Line.{read, preset, scale, sequence, axis, form}
+pub use borrow.Author.Needs.{needs}
+use Rattle.integer.specs.Base.{_≡_, List, Bool, true, false, ℕ, _-ℤ_, drop, w32, w64, Fits, SFits, toZ, ofZ, toZ-pos, arith, eq-eqb, ne-eqb}
+use Rattle.integer.specs.{ascii}
+use Rattle.integer.proofs.{diff-fits, diff-reads}
+use Rattle.axislog_lexer.specs.{Decimal, declared.number.Decimal.the-variants.Number, Nothing as NoNumber, Place, At, Nowhere, past, ends, labelled, last}
+use Rattle.axislog_forms.specs.{Form, Axis, Read, Preset, Nothing, read, preset, scale, sequence, axis, form}
 
 -- ---- a line, by its first word
 module _ (line : List ℕ) (q : Place) (e : q ≡ past (ascii "(read ") 0 line) where

@@ -1,2 +1,3 @@
 pub mod FormLaws
 pub mod ShortLaws
+pub use ShortLaws.{form-empty, form-one}

@@ -1,19 +1,9 @@
 -- The forms of a line (document 01, "The program axislog"), as they are found in it from left to right. How each is written stands in
 -- crates/axislog_grammar/specs/Grammar.antt, where it is proved that just these lines are forms.
 -- Assumes nothing.
-use Prim.Native.Nat.{ℕ}
-use mathlib.Core.List.{List}
-use mathlib.Core.Bool.{Bool, true, false, cond}
-use lib.Dec.{eqb}
-use lib.IntN.{pos, _-ℤ_}
-use lib.ListN.{drop}
-use Rattle.integer.specs.Text.{ascii}
-use Rattle.axislog_lexer.specs.declared.number.Decimal.{Decimal}
-use Rattle.axislog_lexer.specs.declared.number.Decimal.the-variants.{Number, Nothing as NoNumber}
-use Rattle.axislog_lexer.specs.declared.word.Place.{Place}
-use Rattle.axislog_lexer.specs.declared.word.Place.the-variants.{At, Nowhere}
-use Rattle.axislog_lexer.specs.Word.{past, ends}
-use Rattle.axislog_lexer.specs.Number.{labelled, last}
+use Rattle.integer.specs.Base.{ℕ, List, Bool, true, false, cond, eqb, pos, _-ℤ_, drop}
+use Rattle.integer.specs.{ascii}
+use Rattle.axislog_lexer.specs.{Decimal, declared.number.Decimal.the-variants.Number, Nothing as NoNumber, Place, At, Nowhere, past, ends, labelled, last}
 use Rattle.axislog_forms.specs.declared.Form.{Form}
 use Rattle.axislog_forms.specs.declared.Form.the-variants.{Axis, Read, Preset, Nothing}
 

@@ -1,6 +1,6 @@
 // A line of an axis log, read as a form (document 01, "The program axislog"). Positions in a line are counted from 0.
-ghost use mathlib.Core.Path.{_≡_};
-ghost use Rattle.axislog_forms.specs.Line.{form, read, preset, axis, sequence, scale};
+ghost use Rattle.integer.specs.Base.{_≡_};
+ghost use Rattle.axislog_forms.specs.{form, read, preset, axis, sequence, scale};
 use axislog_lexer::number::Decimal;
 use axislog_lexer::number::labelled;
 use axislog_lexer::number::last;

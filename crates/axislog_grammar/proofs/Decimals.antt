@@ -1,14 +1,9 @@
 -- Decimals, digit by digit: a further digit stands behind those that are there, and a digit's octet is told by its value.
 -- Assumes nothing.
-use mathlib.Core.Path.{_≡_, refl}
-use mathlib.Core.List.{[], _∷_, _++_}
-use mathlib.Core.Bool.{Bool, true, false, cond}
-use Prim.Native.Nat.{ℕ, zero, suc, _+_, _*_, _/_, _%_, _^_, _≤_, _<_}
-use native.Mathlib.Omega.{arith}
-use lib.Dec.{ltb}
-use borrow.Author.Tests.{lt-ltb, le-ltb, ltb-false}
-use Rattle.axislog_answers.specs.Text.{decimalBelow, decimal}
-use Rattle.axislog_lexer.specs.Number.{digitOf}
+use Rattle.integer.specs.Base.{_≡_, refl, [], _∷_, _++_, Bool, true, false, cond, ℕ, zero, suc, _+_, _*_, _/_, _%_, _^_, _≤_, _<_, arith, ltb, lt-ltb, le-ltb}
+use Rattle.integer.specs.Base.{ltb-false}
+use Rattle.axislog_lexer.specs.{digitOf}
+use Rattle.axislog_answers.specs.{decimalBelow, decimal}
 
 -- a test, by its two ways
 pub choose : {A : Type 0} (P : A → Type 0) (t : Bool) {a b : A} → (t ≡ true → P a) → (t ≡ false → P b) → P (cond t a b)

@@ -1,22 +1,11 @@
 -- What each reader of words and numbers has found: it goes on from one front of the line to a longer one, and what it adds is the word or the number.
 -- One law a reader, over any front.
 -- Assumes nothing.
-use mathlib.Core.Path.{_≡_, refl, _∙_}
-use mathlib.Core.List.{List, [], _∷_, _++_, append-assoc, append-nil}
-use mathlib.Core.Bool.{true, false, false≢true}
-use Prim.Native.Nat.{ℕ, _+_, _*_, _≤_}
-use native.Mathlib.Omega.{arith}
-use lib.Dec.{ltb, eqb}
-use lib.ListN.{length, drop, length-append, drop-of-length-le}
-use lib.Seq.{drop-at}
-use borrow.Author.Tests.{ltb-false, eqb-true, eqb-false}
-use Rattle.axislog_answers.specs.Text.{decimal}
-use Rattle.axislog_lexer.specs.declared.number.Decimal.{Decimal}
-use Rattle.axislog_lexer.specs.declared.number.Decimal.the-variants.{Number, Nothing as NoNumber}
-use Rattle.axislog_lexer.specs.declared.word.Place.{Place}
-use Rattle.axislog_lexer.specs.declared.word.Place.the-variants.{At, Nowhere}
-use Rattle.axislog_lexer.specs.Word.{past, isAt, ends}
-use Rattle.axislog_lexer.specs.Number.{digitOf, digits, number, numberAfter, labelled, closed, last}
+use Rattle.integer.specs.Base.{_≡_, refl, _∙_, List, [], _∷_, _++_, append-assoc, append-nil, true, false≢true, ℕ, _+_, _*_, _≤_, arith, ltb, eqb, length, drop}
+use Rattle.integer.specs.Base.{length-append, drop-of-length-le, drop-at, ltb-false, eqb-true, eqb-false}
+use Rattle.axislog_lexer.specs.{Decimal, declared.number.Decimal.the-variants.Number, Nothing as NoNumber, Place, At, Nowhere, past, isAt, ends, digitOf, digits}
+use Rattle.axislog_lexer.specs.{number, numberAfter, labelled, closed, last}
+use Rattle.axislog_answers.specs.{decimal}
 use Rattle.axislog_grammar.proofs.Decimals.{choose, decimal-more, decimal-one, octet-is}
 
 -- ---- fronts of a line

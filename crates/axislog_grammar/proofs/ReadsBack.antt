@@ -1,29 +1,17 @@
 -- A form as written is read as that form. Each reader is followed from a position p behind which the line goes on as stated, drop p line ≡ w ++ s, to
 -- the position behind what it has read, where the line goes on as s: so no law names what stands before.
 -- Assumes nothing.
-use mathlib.Core.Path.{_≡_, refl, sym, ap, _∙_}
-use mathlib.Core.Bool.{Bool, true, false, cond}
-use mathlib.Core.List.{List, [], _∷_, _++_, append-assoc, append-nil}
-use Prim.Native.Nat.{ℕ, zero, suc, _+_, _/_, _%_, _^_, _≤_, _<_}
-use native.Mathlib.Omega.{arith}
+use Rattle.integer.specs.Base.{_≡_, refl, sym, ap, _∙_, Bool, true, false, cond, List, [], _∷_, _++_, append-assoc, append-nil, ℕ, zero, suc, _+_, _/_, _%_, _^_}
+use Rattle.integer.specs.Base.{_≤_, _<_, arith, ltb, eqb, ℤ, pos, negsuc, +ℤ-idl, length, drop, length-append, length-drop, drop-drop, lt-ltb, le-ltb, eq-eqb}
+use Rattle.integer.specs.Base.{ne-eqb, ltb-true, ltb-false, eqb-true}
+use Rattle.integer.specs.{ascii}
+use Rattle.axislog_lexer.specs.{declared.number.Decimal.the-variants.Number, At, Nowhere, past, ends, digitOf, digits, number, labelled, last}
+use Rattle.axislog_lexer.proofs.{digit-low, digit-is}
+use Rattle.axislog_forms.specs.{Setup, Form, Axis, Read, Preset, Nothing, read, preset, scale, sequence, axis, form}
+use Rattle.axislog_answers.specs.{decimalBelow, decimal}
+use Rattle.axislog_grammar.specs.{signed, turning, scaling, written, unscaled, Sized, Writable}
+use lib.{Dec.eqb·suc-zero, Seq.drop-append-seam}
 use native.Mathlib.Nat.{div-add-mod'}
-use lib.Dec.{ltb, eqb, eqb·suc-zero}
-use lib.IntN.{ℤ, pos, negsuc, +ℤ-idl}
-use lib.ListN.{length, drop, length-append, length-drop}
-use lib.Seq.{drop-drop, drop-append-seam}
-use borrow.Author.Tests.{lt-ltb, le-ltb, eq-eqb, ne-eqb, ltb-true, ltb-false, eqb-true}
-use Rattle.integer.specs.Text.{ascii}
-use Rattle.axislog_answers.specs.Text.{decimalBelow, decimal}
-use Rattle.axislog_lexer.specs.declared.number.Decimal.the-variants.{Number}
-use Rattle.axislog_lexer.specs.declared.word.Place.the-variants.{At, Nowhere}
-use Rattle.axislog_lexer.specs.Word.{past, ends}
-use Rattle.axislog_lexer.specs.Number.{digitOf, digits, number, labelled, last}
-use Rattle.axislog_lexer.proofs.NumberLaws.{digit-low, digit-is}
-use Rattle.axislog_forms.specs.declared.Setup.{Setup}
-use Rattle.axislog_forms.specs.declared.Form.{Form}
-use Rattle.axislog_forms.specs.declared.Form.the-variants.{Axis, Read, Preset, Nothing}
-use Rattle.axislog_forms.specs.Line.{read, preset, scale, sequence, axis, form}
-use Rattle.axislog_grammar.specs.Grammar.{signed, turning, scaling, written, unscaled, Sized, Writable}
 
 -- ---- words
 past-word : (w s : List ℕ) (p : ℕ) → past w p (w ++ s) ≡ At (p + length w)

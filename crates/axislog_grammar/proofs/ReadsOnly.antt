@@ -1,23 +1,12 @@
 -- A line that is read as a form is that form as written. A form's law puts those of its readers one behind the other.
 -- Assumes nothing.
-use mathlib.Core.Path.{_≡_, refl, _∙_}
-use mathlib.Core.List.{List, [], _++_, append-assoc, append-nil}
-use mathlib.Core.Bool.{Bool, true, false, cond}
-use Prim.Native.Nat.{ℕ, zero, suc, _≤_}
-use native.Mathlib.Omega.{arith}
-use lib.Dec.{eqb}
-use lib.IntN.{pos, negsuc, _-ℤ_, +ℤ-idl}
-use borrow.Author.Tests.{ne-eqb}
-use Rattle.integer.specs.Text.{ascii}
-use Rattle.axislog_answers.specs.Text.{decimal}
-use Rattle.axislog_lexer.specs.declared.number.Decimal.{Decimal}
-use Rattle.axislog_lexer.specs.declared.word.Place.{Place}
-use Rattle.axislog_lexer.specs.Word.{past, ends}
-use Rattle.axislog_lexer.specs.Number.{labelled, last}
-use Rattle.axislog_forms.specs.declared.Form.{Form}
-use Rattle.axislog_forms.specs.declared.Form.the-variants.{Preset, Nothing}
-use Rattle.axislog_forms.specs.Line.{from, with, read, preset, scale, sequence, axis, form}
-use Rattle.axislog_grammar.specs.Grammar.{turning, written, Writable}
+use Rattle.integer.specs.Base.{_≡_, refl, _∙_, List, [], _++_, append-assoc, append-nil, Bool, true, false, cond, ℕ, zero, suc, _≤_, arith, eqb, pos, negsuc, _-ℤ_}
+use Rattle.integer.specs.Base.{+ℤ-idl, ne-eqb}
+use Rattle.integer.specs.{ascii}
+use Rattle.axislog_lexer.specs.{Decimal, Place, ends}
+use Rattle.axislog_forms.specs.{Form, Preset, Nothing, from, with, read, preset, scale, sequence, axis, form}
+use Rattle.axislog_answers.specs.{decimal}
+use Rattle.axislog_grammar.specs.{turning, written, Writable}
 use Rattle.axislog_grammar.proofs.Decimals.{choose}
 use Rattle.axislog_grammar.proofs.Found.{Upto, start, Passed, passed, missed, past-is, ends-is, Counted, counted, uncounted, labelled-is, last-is}
 

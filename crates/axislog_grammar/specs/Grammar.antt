@@ -1,17 +1,10 @@
 -- How each form is written (document 01, "The program axislog"): one nested bracket form a line, single spaces, decimal without leading zeros, at
 -- most 4294967295 in size; inner forms in the order shown; the scale form may be missing.
 -- Assumes nothing.
-use mathlib.Core.Path.{_≡_}
-use mathlib.Core.Bool.{Bool, true, false}
-use mathlib.Core.List.{List, [], _++_}
-use Prim.Native.Nat.{ℕ, suc, _≤_}
-use lib.IntN.{ℤ, pos, negsuc, natAbs}
-use Rattle.integer.specs.Text.{ascii}
-use Rattle.axislog_answers.specs.Text.{decimal}
-use Rattle.axislog_forms.specs.declared.Setup.{Setup}
-use Rattle.axislog_forms.specs.declared.Form.{Form}
-use Rattle.axislog_forms.specs.declared.Form.the-variants.{Axis, Read, Preset, Nothing}
-use Rattle.axislog_forms.specs.Line.{form}
+use Rattle.integer.specs.Base.{_≡_, Bool, true, false, List, [], _++_, ℕ, suc, _≤_, ℤ, pos, negsuc, natAbs}
+use Rattle.integer.specs.{ascii}
+use Rattle.axislog_forms.specs.{Setup, Form, Axis, Read, Preset, Nothing, form}
+use Rattle.axislog_answers.specs.{decimal}
 
 -- a preset's value, with its sign
 abbrev pub signed : ℤ → List ℕ

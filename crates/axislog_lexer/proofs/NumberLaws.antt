@@ -1,19 +1,10 @@
 -- A number at a position of a line: one step of `digits` for each way through the loop, and one law for each way out of the other readers.
 -- Assumes nothing.
-use mathlib.Core.Path.{_≡_}
-use mathlib.Core.List.{List}
-use mathlib.Core.Bool.{Bool, true, false}
-use Prim.Native.Nat.{ℕ, _+_, _-_, _*_, _≤_, _<_}
-use native.Mathlib.Numerals.{add-one}
-use lib.ListN.{length, getD, drop, drop-of-length-le}
-use lib.Seq.{drop-cons}
-use borrow.Author.Tests.{lt-ltb, le-ltb, eq-eqb, ne-eqb}
-use Rattle.axislog_lexer.specs.declared.number.Decimal.{Decimal}
-use Rattle.axislog_lexer.specs.declared.number.Decimal.the-variants.{Number, Nothing}
-use Rattle.axislog_lexer.specs.declared.word.Place.{Place}
-use Rattle.axislog_lexer.specs.declared.word.Place.the-variants.{At, Nowhere}
-use Rattle.axislog_lexer.specs.Word.{past, ends}
-use Rattle.axislog_lexer.specs.Number.{digitOf, digits, number, labelled, last}
+pub use borrow.Author.Needs.{needs}
+use Rattle.integer.specs.Base.{_≡_, List, Bool, true, false, ℕ, _+_, _-_, _*_, _≤_, _<_, add-one, length, getD, drop, drop-of-length-le, drop-cons, lt-ltb, le-ltb}
+use Rattle.integer.specs.Base.{eq-eqb, ne-eqb}
+use Rattle.axislog_lexer.specs.{Decimal, declared.number.Decimal.the-variants.Number, Nothing, Place, At, Nowhere, past, ends, digitOf, digits, number}
+use Rattle.axislog_lexer.specs.{labelled, last}
 
 -- ---- the value of a digit
 module _ (b : ℕ) where

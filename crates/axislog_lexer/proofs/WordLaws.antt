@@ -1,17 +1,8 @@
 -- A word at a position of a line: one step of `past`, where both lists go on, for each way through the loop; and the end of a line.
 -- Assumes nothing.
-use mathlib.Core.Path.{_≡_, refl}
-use mathlib.Core.List.{List, [], _∷_}
-use mathlib.Core.Bool.{Bool, true, false, cond}
-use Prim.Native.Nat.{ℕ, _+_, _≤_, _<_}
-use native.Mathlib.Numerals.{add-one}
-use lib.Dec.{eqb}
-use lib.ListN.{length, getD, drop, drop-of-length-le}
-use lib.Seq.{drop-cons}
-use borrow.Author.Tests.{eq-eqb, ne-eqb}
-use Rattle.axislog_lexer.specs.declared.word.Place.{Place}
-use Rattle.axislog_lexer.specs.declared.word.Place.the-variants.{At, Nowhere}
-use Rattle.axislog_lexer.specs.Word.{past, ends}
+use Rattle.integer.specs.Base.{_≡_, refl, List, [], _∷_, Bool, true, false, cond, ℕ, _+_, _≤_, _<_, add-one, eqb, length, getD, drop, drop-of-length-le, drop-cons}
+use Rattle.integer.specs.Base.{eq-eqb, ne-eqb}
+use Rattle.axislog_lexer.specs.{Place, At, Nowhere, past, ends}
 
 module _ (word line : List ℕ) (i k : ℕ) (r : Place) (inv : past (drop i word) k (drop k line) ≡ r) where
   pub past-end : length word ≤ i → At k ≡ r

@@ -1,15 +1,8 @@
 -- Decimal numbers: no leading zero, at most 4294967295 (document 01, "The program axislog").
 -- Assumes nothing.
-use Prim.Native.Nat.{ℕ, _+_, _*_, _-_}
-use mathlib.Core.List.{List, [], _∷_}
-use mathlib.Core.Bool.{cond}
-use lib.Dec.{ltb, eqb}
-use lib.ListN.{drop}
-use Rattle.axislog_lexer.specs.declared.number.Decimal.{Decimal}
-use Rattle.axislog_lexer.specs.declared.number.Decimal.the-variants.{Number, Nothing}
-use Rattle.axislog_lexer.specs.declared.word.Place.{Place}
-use Rattle.axislog_lexer.specs.declared.word.Place.the-variants.{At, Nowhere}
-use Rattle.axislog_lexer.specs.Word.{past, ends}
+use Rattle.integer.specs.Base.{ℕ, _+_, _*_, _-_, List, [], _∷_, cond, ltb, eqb, drop}
+use Rattle.axislog_lexer.specs.{declared.number.Decimal.Decimal, declared.number.Decimal.the-variants.Number, declared.number.Decimal.the-variants.Nothing}
+use Rattle.axislog_lexer.specs.{declared.word.Place.Place, declared.word.Place.the-variants.At, declared.word.Place.the-variants.Nowhere, Word.past, Word.ends}
 
 -- the value of a digit, and 10 of any other octet
 unfoldable pub digitOf : ℕ → ℕ

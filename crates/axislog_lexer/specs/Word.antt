@@ -1,12 +1,7 @@
 -- Words in a line (document 01, "The program axislog"). Positions are counted from 0.
 -- Assumes nothing.
-use Prim.Native.Nat.{ℕ, _+_}
-use mathlib.Core.List.{List, [], _∷_}
-use mathlib.Core.Bool.{Bool, false, cond}
-use lib.Dec.{eqb}
-use lib.ListN.{length, drop}
-use Rattle.axislog_lexer.specs.declared.word.Place.{Place}
-use Rattle.axislog_lexer.specs.declared.word.Place.the-variants.{At, Nowhere}
+use Rattle.integer.specs.Base.{ℕ, _+_, List, [], _∷_, Bool, false, cond, eqb, length, drop}
+use Rattle.axislog_lexer.specs.{declared.word.Place.Place, declared.word.Place.the-variants.At, declared.word.Place.the-variants.Nowhere}
 
 -- a word, and a text from position p on that begins with it: the position after the word
 unfoldable pub past : List ℕ → ℕ → List ℕ → Place

@@ -1,8 +1,6 @@
 // Decimal numbers in a line: no leading zero, at most 4294967295.
-ghost use mathlib.Core.Path.{_≡_};
-ghost use Prim.Native.Nat.{_≤_};
-ghost use lib.ListN.{length, drop};
-ghost use Rattle.axislog_lexer.specs.Number.{digitOf, digits, number, labelled, last};
+ghost use Rattle.integer.specs.Base.{_≡_, _≤_, length, drop};
+ghost use Rattle.axislog_lexer.specs.{digitOf, digits, number, labelled, last};
 use crate::word::Place;
 use crate::word::ends;
 use crate::word::past;

@@ -1,7 +1,6 @@
 // Words in a line, compared octet by octet.
-ghost use mathlib.Core.Path.{_≡_};
-ghost use lib.ListN.{drop};
-ghost use Rattle.axislog_lexer.specs.Word.{past, ends};
+ghost use Rattle.integer.specs.Base.{_≡_, drop};
+ghost use Rattle.axislog_lexer.specs.{past, ends};
 
 // Where a line goes on after a word.
 pub enum Place {

@@ -1,31 +1,14 @@
 -- The axis of a log stays within its limits: after any lines a started axis is acceptable, so that a call on it never gets 16, and a call that is
 -- taken is answered with the position. Call by call, by the laws of axis.
 -- Assumes nothing.
-use mathlib.Core.Path.{_≡_, refl}
-use mathlib.Core.List.{List, [], _∷_}
-use mathlib.Core.Bool.{true, false}
-use Prim.Native.Nat.{ℕ, zero, suc}
-use native.Mathlib.Omega.{arith}
-use lib.IntN.{ℤ}
-use Rattle.encoder.specs.Refusal.{answer}
-use Rattle.encoder.specs.Rows.{refusalOn}
-use Rattle.axis.specs.declared.Axis.{Axis}
-use Rattle.axis.specs.declared.Next.{Next}
-use Rattle.axis.specs.Limits.{acceptable, axisRefusal, positionOf, reported}
-use Rattle.axis.specs.Reading.{startRaw, readRaw}
-use Rattle.axis.specs.Preset.{preset as presetOn}
-use Rattle.axis.proofs.AxisLaws.{limits-of, accepts}
-use Rattle.axis.proofs.LimitsKept.{raw-kept, preset-kept, raw-started-kept}
-use Rattle.axislog_forms.specs.declared.Setup.{Setup}
-use Rattle.axislog_forms.specs.declared.Form.{Form}
-use Rattle.axislog_forms.specs.declared.Form.the-variants.{Axis as AxisForm, Read, Preset, Nothing}
-use Rattle.axislog_forms.specs.Line.{form}
-use Rattle.axislog_answers.specs.declared.Answer.the-variants.{At}
-use Rattle.axislog_state.specs.declared.Stage.{Stage}
-use Rattle.axislog_state.specs.declared.Stage.the-variants.{NoAxis, Waiting, Started}
-use Rattle.axislog_state.specs.declared.State.{State}
-use Rattle.axislog_state.specs.declared.Reply.{Reply}
-use Rattle.axislog_state.specs.Forms.{plateOf, parametersOf, unstarted, empty, positionAnswer, refused, taken, after, ready, setUp, readAt, read, presetAt, preset, reply}
+use Rattle.integer.specs.Base.{_≡_, refl, List, [], _∷_, true, false, ℕ, zero, suc, arith, ℤ}
+use Rattle.encoder.specs.{answer, refusalOn}
+use Rattle.axis.specs.{Axis, Next, acceptable, axisRefusal, positionOf, reported, startRaw, readRaw, preset as presetOn}
+use Rattle.axis.proofs.{limits-of, accepts, raw-kept, preset-kept, raw-started-kept}
+use Rattle.axislog_forms.specs.{Setup, Form, Axis as AxisForm, Read, Preset, Nothing, form}
+use Rattle.axislog_answers.specs.{At}
+use Rattle.axislog_state.specs.{Stage, NoAxis, Waiting, Started, State, Reply, plateOf, parametersOf, unstarted, empty, positionAnswer, refused, taken, after}
+use Rattle.axislog_state.specs.{ready, setUp, readAt, read, presetAt, preset, reply}
 
 -- a started axis is within its limits
 abbrev pub Kept : State → Type 0

@@ -1,40 +1,17 @@
 -- What a form does to the axis of a log, one law for each way out.
 -- Assumes nothing.
-use mathlib.Core.Path.{_≡_, sym, ap, _∙_}
-use mathlib.Core.Bool.{Bool, true, false}
-use Prim.Native.Nat.{ℕ, _+_, _*_}
-use lib.IntN.{ℤ}
-use native.Mathlib.Omega.{arith}
-use mir.Syntax.{w8, w64}
-use mir.Val.{Fits, SFits, toZ, ofZ, boolByte}
-use Rattle.integer.specs.Bits.{at}
-use Rattle.integer.proofs.Size.{reads}
-use Rattle.integer.proofs.Bits.{flag-lt, at-is}
-use Rattle.encoder.specs.declared.nameplate.Nameplate.{Nameplate}
-use Rattle.encoder.specs.declared.parameters.Parameters.{Parameters}
-use Rattle.encoder.specs.declared.parameters.Parameters.the-variants.{Class2}
-use Rattle.encoder.specs.declared.quantity.Units.{Units}
-use Rattle.encoder.specs.Refusal.{answer}
-use Rattle.encoder.specs.Rows.{refusalOn}
-use Rattle.encoder.proofs.RefusalLaws.{answer-no}
-use Rattle.axis_shaft.specs.Rules.{nowhere}
-use Rattle.axis_shaft.specs.declared.Reported.{Reported}
-use Rattle.axis_shaft.specs.declared.Reported.the-variants.{At as Found, Refused as Outside}
-use Rattle.axis.specs.declared.Axis.{Axis}
-use Rattle.axis.specs.declared.Next.{Next}
-use Rattle.axis.specs.Limits.{reported}
-use Rattle.axis.specs.Reading.{fresh, startRaw, readRaw}
-use Rattle.axis.specs.Preset.{preset as presetOn}
-use Rattle.axislog_forms.specs.declared.Setup.{Setup}
-use Rattle.axislog_forms.specs.declared.Form.{Form}
-use Rattle.axislog_forms.specs.declared.Form.the-variants.{Axis as AxisForm, Read, Preset, Nothing}
-use Rattle.axislog_answers.specs.declared.Answer.{Answer}
-use Rattle.axislog_answers.specs.declared.Answer.the-variants.{Ready, At, Refused}
-use Rattle.axislog_state.specs.declared.Stage.{Stage}
-use Rattle.axislog_state.specs.declared.Stage.the-variants.{NoAxis, Waiting, Started}
-use Rattle.axislog_state.specs.declared.State.{State}
-use Rattle.axislog_state.specs.declared.Reply.{Reply}
-use Rattle.axislog_state.specs.Forms.{plateOf, parametersOf, unstarted, positionAnswer, refused, taken, after, ready, setUp, readAt, read, presetAt, preset, reply}
+pub use borrow.Author.Needs.{needs}
+use Rattle.integer.specs.Base.{_≡_, sym, ap, _∙_, Bool, true, false, ℕ, _+_, _*_, ℤ, arith, w8, w64, Fits, SFits, toZ, ofZ, boolByte}
+use Rattle.integer.specs.{at}
+use Rattle.integer.proofs.{reads, flag-lt, at-is}
+use Rattle.encoder.specs.{Nameplate, Parameters, Class2, Units, answer, refusalOn}
+use Rattle.encoder.proofs.{answer-no}
+use Rattle.axis_shaft.specs.{nowhere, Reported, At as Found, declared.Reported.the-variants.Refused as Outside}
+use Rattle.axis.specs.{Axis, Next, reported, fresh, startRaw, readRaw, preset as presetOn}
+use Rattle.axislog_forms.specs.{Setup, Form, Axis as AxisForm, Read, Preset, Nothing}
+use Rattle.axislog_answers.specs.{Ready, At, Refused}
+use Rattle.axislog_state.specs.{Stage, NoAxis, Waiting, Started, State, Reply, plateOf, parametersOf, unstarted, positionAnswer, refused, after, ready, setUp}
+use Rattle.axislog_state.specs.{readAt, read, presetAt, preset, reply}
 
 -- ---- plate and parameters
 octet-is : (b c : Bool) → boolByte b * 8 + 2 + boolByte c ≡ at b 3 + at true 1 + at c 0

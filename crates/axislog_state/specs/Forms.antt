@@ -1,32 +1,14 @@
 -- The axis of a log, and what a form does to it (document 01, "The program axislog").
 -- Assumes nothing.
-use Prim.Native.Nat.{ℕ, _+_}
-use mathlib.Core.Bool.{false, true}
-use lib.IntN.{ℤ}
-use Rattle.integer.specs.Bits.{at}
-use Rattle.encoder.specs.declared.nameplate.Nameplate.{Nameplate}
-use Rattle.encoder.specs.declared.parameters.Parameters.{Parameters}
-use Rattle.encoder.specs.declared.parameters.Parameters.the-variants.{Class2}
-use Rattle.encoder.specs.Refusal.{noForm, noAxis, answer}
-use Rattle.encoder.specs.Plate.{plainPlate}
-use Rattle.encoder.specs.Rows.{refusalOn}
-use Rattle.axis_shaft.specs.Rules.{nowhere}
-use Rattle.axis_shaft.specs.declared.Reported.{Reported}
-use Rattle.axis_shaft.specs.declared.Reported.the-variants.{At as Found, Refused as Outside}
-use Rattle.axis.specs.declared.Axis.{Axis}
-use Rattle.axis.specs.declared.Next.{Next}
-use Rattle.axis.specs.Limits.{reported}
-use Rattle.axis.specs.Reading.{fresh, startRaw, readRaw}
-use Rattle.axis.specs.Preset.{preset as presetOn}
-use Rattle.axislog_forms.specs.declared.Setup.{Setup}
-use Rattle.axislog_forms.specs.declared.Form.{Form}
-use Rattle.axislog_forms.specs.declared.Form.the-variants.{Axis as AxisForm, Read, Preset, Nothing}
-use Rattle.axislog_answers.specs.declared.Answer.{Answer}
-use Rattle.axislog_answers.specs.declared.Answer.the-variants.{Ready, At, Refused}
-use Rattle.axislog_state.specs.declared.Stage.{Stage}
-use Rattle.axislog_state.specs.declared.Stage.the-variants.{NoAxis, Waiting, Started}
-use Rattle.axislog_state.specs.declared.State.{State}
-use Rattle.axislog_state.specs.declared.Reply.{Reply}
+use Rattle.integer.specs.Base.{ℕ, _+_, false, true, ℤ}
+use Rattle.integer.specs.{at}
+use Rattle.encoder.specs.{Nameplate, Parameters, Class2, noForm, noAxis, answer, plainPlate, refusalOn}
+use Rattle.axis_shaft.specs.{nowhere, Reported, At as Found, declared.Reported.the-variants.Refused as Outside}
+use Rattle.axis.specs.{Axis, Next, reported, fresh, startRaw, readRaw, preset as presetOn}
+use Rattle.axislog_forms.specs.{Setup, Form, Axis as AxisForm, Read, Preset, Nothing}
+use Rattle.axislog_answers.specs.{Answer, Ready, At, Refused}
+use Rattle.axislog_state.specs.{declared.Stage.Stage, declared.Stage.the-variants.NoAxis, declared.Stage.the-variants.Waiting}
+use Rattle.axislog_state.specs.{declared.Stage.the-variants.Started, declared.State.State, declared.Reply.Reply}
 
 -- the plate's other fields are zero
 abbrev pub plateOf : Setup → Nameplate

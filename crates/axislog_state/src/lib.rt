@@ -1,17 +1,17 @@
 // The axis of a log, and what a form does to it (document 01, "The program axislog").
-ghost use mathlib.Core.Path.{_≡_};
-ghost use Rattle.axislog_state.specs.Forms.{empty, unstarted, parametersOf, positionAnswer, refused, after, setUp, read, preset, reply};
-use axislog_answers::Answer;
+ghost use Rattle.integer.specs.Base.{_≡_};
+ghost use Rattle.axislog_state.specs.{empty, unstarted, parametersOf, positionAnswer, refused, after, setUp, read, preset, reply};
 use axis::Axis;
 use axis::Next;
+use axis_shaft::Reported;
+use axis_shaft::Shaft;
+use axislog_answers::Answer;
+use axislog_forms::Form;
+use axislog_forms::Setup;
 use encoder::nameplate::Nameplate;
 use encoder::parameters::Parameters;
 use encoder::quantity::Units;
 use encoder::refusal;
-use axislog_forms::Form;
-use axislog_forms::Setup;
-use axis_shaft::Reported;
-use axis_shaft::Shaft;
 
 pub enum Stage {
     // no axis form was accepted yet

@@ -1,21 +1,12 @@
 -- Acknowledging (document 01, "One cycle", its last paragraph): a held error is gone by the second of two cycles, if bit 15 is 1 in the first
 -- and 0 in the second, STW2_ENC bit 10 is 1 in both and the second is not faulty. The link alone decides it, by what the crate link shows.
 -- Assumes nothing.
-use mathlib.Core.Path.{_≡_, refl, _∙_}
-use mathlib.Core.Bool.{true, false}
-use mathlib.Core.List.{List}
-use Prim.Native.Nat.{ℕ, zero, suc}
-use native.Mathlib.Omega.{arith}
-use Rattle.integer.specs.Bits.{bit}
-use Rattle.axis.specs.declared.Axis.{Axis}
-use Rattle.axis.specs.Limits.{rulesOn}
-use Rattle.cyclic_link.specs.declared.Link.{Link}
-use Rattle.cyclic_link.specs.Class4.{link}
-use Rattle.cyclic_link.proofs.Acknowledging.{gone}
-use Rattle.cyclic.specs.declared.Cycled.{Cycled}
-use Rattle.cyclic.specs.Raw.{faultyAt}
-use Rattle.cyclic.specs.Class4.{stw2, stw, counted}
-use Rattle.cyclic.specs.Cycle.{class4, cycleRefusal, linkAfter, axisAfter, linkLeft, cycled, cycle}
+use Rattle.integer.specs.Base.{_≡_, refl, _∙_, true, false, List, ℕ, zero, suc, arith}
+use Rattle.integer.specs.{bit}
+use Rattle.axis.specs.{Axis, rulesOn}
+use Rattle.cyclic_link.specs.{Link, Class4.link}
+use Rattle.cyclic_link.proofs.{gone}
+use Rattle.cyclic.specs.{Cycled, faultyAt, stw2, stw, counted, class4, cycleRefusal, linkAfter, axisAfter, linkLeft, cycled, cycle}
 use Rattle.cyclic.proofs.CycleKept.{after-same}
 
 -- ---- a cycle that is not refused leaves these

@@ -1,22 +1,12 @@
 -- The words of class 4, each way out.
 -- Assumes nothing.
-use mathlib.Core.Path.{_≡_, ap, _∙_}
-use mathlib.Core.Bool.{Bool, true, false}
-use mathlib.Core.List.{List}
-use Prim.Native.Nat.{ℕ, _%_, _^_}
-use native.Mathlib.Omega.{arith}
-use lib.ListN.{take, drop}
-use Rattle.integer.specs.Bits.{bit}
-use Rattle.integer.specs.Octets.{bigEndian}
-use Rattle.integer.proofs.Octets.{Octets, bigEndian-part}
-use Rattle.encoder.specs.declared.parameters.Fields.{Fields}
-use Rattle.encoder.specs.Rows.{fieldsOf}
-use Rattle.axis.specs.Limits.{unshiftedOf, positionOf}
-use Rattle.cyclic_link.specs.declared.Link.{Link}
-use Rattle.cyclic_link.specs.Class4.{zsw}
-use Rattle.cyclic.specs.declared.standing.Standing.{Standing}
-use Rattle.cyclic.specs.Preset.{standing}
-use Rattle.cyclic.specs.Class4.{counted, xist1, words, input}
+use Rattle.integer.specs.Base.{_≡_, ap, _∙_, Bool, true, false, List, ℕ, _%_, _^_, arith, take, drop}
+use Rattle.integer.specs.{bit, bigEndian}
+use Rattle.integer.proofs.{Octets.Octets, bigEndian-part}
+use Rattle.encoder.specs.{Fields, fieldsOf}
+use Rattle.axis.specs.{unshiftedOf, positionOf}
+use Rattle.cyclic_link.specs.{Link, zsw}
+use Rattle.cyclic.specs.{Standing, standing, counted, xist1, words, Class4.input}
 
 -- ---- the control words
 module _ (output : List ℕ) (os : Octets output) (n : ℕ) (b : Bool) (n-is : n ≡ bigEndian (take 2 (drop 0 output)) % 2 ^ 32) (b-is : b ≡ bit 10 n) where

@@ -1,27 +1,14 @@
 -- Through a cycle an axis keeps nameplate and parameters, and so what is in force; and within its limits it stays: a cycle is a reading, and a
 -- preset of a value that was tested, or held within them.
 -- Assumes nothing.
-use mathlib.Core.Path.{_≡_, refl, _∙_}
-use mathlib.Core.Bool.{Bool, true, false, cond}
-use mathlib.Core.List.{List}
-use Prim.Native.Nat.{ℕ, zero, suc, _<_}
-use lib.IntN.{ℤ, natAbs}
-use Rattle.encoder.specs.declared.effect.InForce.{InForce}
-use Rattle.axis.specs.declared.Axis.{Axis}
-use Rattle.axis.specs.declared.Next.{Next}
-use Rattle.axis.specs.Limits.{rulesOn, Ready}
-use Rattle.axis.specs.Reading.{next, atRaw, readRaw, readRawRefusal}
-use Rattle.axis.specs.Preset.{presetted}
-use Rattle.axis.proofs.AxisLaws.{Limits, limits-of, accepts}
-use Rattle.axis.proofs.LimitsKept.{raw-kept, presetted-kept}
-use Rattle.cyclic_link.specs.declared.Link.{Link}
-use Rattle.cyclic_link.specs.Classes.{reaction}
-use Rattle.cyclic_link.proofs.Possible.{possible}
-use Rattle.cyclic.specs.Raw.{faultyAt, takenAt}
-use Rattle.cyclic.specs.Preset.{presetBy}
-use Rattle.cyclic.specs.Class2.{wordOf, axis as axis2}
-use Rattle.cyclic.specs.Class4.{counted, axis as axis4}
-use Rattle.cyclic.specs.Cycle.{class4, wordBy, cycleRefusal, axisAfter, cycled, cycle}
+use Rattle.integer.specs.Base.{_≡_, refl, _∙_, Bool, true, false, cond, List, ℕ, zero, suc, _<_, ℤ, natAbs}
+use Rattle.encoder.specs.{InForce}
+use Rattle.axis.specs.{Axis, Next, rulesOn, Ready, next, atRaw, readRaw, readRawRefusal, presetted}
+use Rattle.axis.proofs.{Limits, limits-of, accepts, raw-kept, presetted-kept}
+use Rattle.cyclic_link.specs.{Link, Classes.reaction}
+use Rattle.cyclic_link.proofs.{possible}
+use Rattle.cyclic.specs.{faultyAt, takenAt, presetBy, wordOf, Class2.axis as axis2, counted, Class4.axis as axis4, class4, wordBy, cycleRefusal, axisAfter}
+use Rattle.cyclic.specs.{cycled, cycle}
 
 -- ---- the axis that a cycle leaves, by the preset that it makes: of either class alike
 after-by : (class : Bool) (b : Axis) (k : Link) (faulty : Bool) (output : List ℕ)

@@ -1,49 +1,24 @@
 -- One cycle on an axis within its limits: its number is that of the two lengths, and what it leaves of axis, link and input is what the calls ensure,
 -- one after the other.
 -- Assumes nothing.
-use mathlib.Core.Path.{_≡_, refl, sym, ap, _∙_}
-use mathlib.Core.Bool.{Bool, true, false, cond, not, _&&_}
-use mathlib.Core.List.{List}
-use Prim.Native.Nat.{ℕ, _%_, _^_, _<_}
-use native.Mathlib.Omega.{arith}
+pub use borrow.Author.Needs.{needs}
+use Rattle.integer.specs.Base.{_≡_, refl, sym, ap, _∙_, Bool, true, false, cond, not, List, ℕ, _%_, _^_, _<_, arith, eqb, ℤ, natAbs, length, eqb-true, w64, toZ, ofZ}
+use Rattle.integer.specs.{bigEndian, octets}
+use Rattle.integer.proofs.{Octets.Octets, bigEndian-lt, reads, fits-abs}
+use Rattle.encoder.specs.{Parameters, Fields, InForce, fieldsOf}
+use Rattle.encoder.proofs.{and-split, when-none}
+use Rattle.axis.specs.{Axis, Next, Ready, readRaw}
+use Rattle.axis.proofs.{limits-of, stands-none}
+use Rattle.cyclic_link.specs.{Link, Reaction, Classes.reaction, Possible}
+use Rattle.cyclic_link.proofs.{possible}
+use Rattle.cyclic.specs.{Cycled, Standing, faultyAt, takenAt, presetBy, standing, class4, inputOctets, lengthRefusal, cycleRefusal, wordBy, inputBy, linkAfter}
+use Rattle.cyclic.specs.{axisAfter, inputOf, linkLeft, inputLeft, done}
+use Rattle.cyclic.proofs.{CycleKept.read-ready, CycleKept.after-same, CycleKept.after-is, Class4Laws.at-position}
 use native.Mathlib.Nat as N
-use lib.Dec.{eqb}
-use lib.IntN.{ℤ, natAbs}
-use lib.ListN.{length}
-use borrow.Author.Tests.{eqb-true, not-false}
-use mir.Syntax.{w64}
-use mir.Val.{toZ, ofZ}
-use Rattle.integer.specs.Octets.{bigEndian, octets}
-use Rattle.integer.proofs.Octets.{Octets, bigEndian-lt}
-use Rattle.integer.proofs.Size.{reads, fits-abs}
-use Rattle.encoder.specs.declared.parameters.Parameters.{Parameters}
-use Rattle.encoder.specs.declared.parameters.Fields.{Fields}
-use Rattle.encoder.specs.declared.effect.InForce.{InForce}
-use Rattle.encoder.specs.declared.effect.Effect.{Effect}
-use Rattle.encoder.specs.declared.effect.Effect.the-variants.{Refused}
-use Rattle.encoder.specs.Rows.{fieldsOf}
-use Rattle.encoder.proofs.PlateLaws.{and-split}
-use Rattle.encoder.proofs.RefusalLaws.{when-none}
-use Rattle.axis.specs.declared.Axis.{Axis}
-use Rattle.axis.specs.declared.Next.{Next}
-use Rattle.axis.specs.Limits.{Ready, inForceOn}
-use Rattle.axis.specs.Reading.{readRaw}
-use Rattle.axis.proofs.AxisLaws.{limits-of, stands-none}
-use Rattle.cyclic_link.specs.declared.Link.{Link}
-use Rattle.cyclic_link.specs.declared.Reaction.{Reaction}
 use Rattle.cyclic_link.specs.Class2 as Link2
 use Rattle.cyclic_link.specs.Class4 as Link4
-use Rattle.cyclic_link.specs.Classes.{reaction, Possible}
-use Rattle.cyclic_link.proofs.Possible.{possible}
-use Rattle.cyclic.specs.declared.Cycled.{Cycled}
-use Rattle.cyclic.specs.declared.standing.Standing.{Standing}
-use Rattle.cyclic.specs.Raw.{faultyAt, takenAt}
-use Rattle.cyclic.specs.Preset.{presetBy, standing}
 use Rattle.cyclic.specs.Class2 as Class2
 use Rattle.cyclic.specs.Class4 as Class4
-use Rattle.cyclic.specs.Cycle.{class4, inputOctets, lengthRefusal, cycleRefusal, wordBy, inputBy, linkAfter, axisAfter, inputOf, linkLeft, inputLeft, done, refused, cycle, cycleInput}
-use Rattle.cyclic.proofs.CycleKept.{read-ready, after-same, after-is}
-use Rattle.cyclic.proofs.Class4Laws.{at-position}
 
 -- ---- the class, and the lengths by it
 class-is : (p : Parameters) (g : Fields) → g ≡ fieldsOf p → class4 p ≡ g .class4

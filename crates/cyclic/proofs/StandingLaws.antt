@@ -1,41 +1,16 @@
 -- The raw number and the preset of a cycle, each way out: the laws of the axis, whose limits are tested once, before. A preset that is made is one
 -- that nothing refuses, and the position after it is the one that it asks for.
 -- Assumes nothing.
-use mathlib.Core.Path.{_≡_, refl, ap}
-use mathlib.Core.Bool.{true, false, not}
-use Prim.Native.Nat.{ℕ, _<_}
-use native.Mathlib.Omega.{arith}
-use lib.IntN.{ℤ, pos, natAbs, _+ℤ_, _-ℤ_}
-use lib.Signed.{nonNeg}
-use lib.Dec.{T}
-use borrow.Author.Tests.{not-false, not-true}
-use mir.Syntax.{w64, w32}
-use mir.Val.{Fits, SFits, toZ, ofZ}
-use mir.ValLaws.{toZ-pos}
-use Rattle.integer.proofs.Signed.{signed, add-is, diff-is}
-use Rattle.integer.proofs.Size.{reads, fits-abs}
-use Rattle.encoder.specs.declared.quantity.Units.{Units}
-use Rattle.encoder.specs.declared.effect.InForce.{InForce}
-use Rattle.axis_shaft.specs.declared.Reported.{Reported}
-use Rattle.axis_shaft.specs.declared.Reported.the-variants.{At, Refused}
-use Rattle.axis_shaft.specs.declared.Shaft.{Shaft}
-use Rattle.axis_shaft.specs.declared.Moved.{Moved}
-use Rattle.axis_shaft.specs.declared.Moved.the-variants.{To}
-use Rattle.axis_shaft.specs.Rules.{moved, reportedAt}
-use Rattle.axis_offset.specs.Offset.{offsetBy}
-use Rattle.axis.specs.declared.Axis.{Axis}
-use Rattle.axis.specs.Limits.{rulesOn, Ready, unshiftedOf, positionOf}
-use Rattle.axis.specs.Reading.{accepted, withShaft}
-use Rattle.axis.specs.Preset.{asked, shifted, presetted}
-use Rattle.axis.proofs.AxisLaws.{Limits, limits-of}
-use Rattle.axis.proofs.LimitsKept.{apart-lt, asked-lt, put-is, unshifted-lt}
-use Rattle.axis.proofs.PositionLaws.{ready-reported, position-is, position-always}
-use Rattle.axis.proofs.PresetLaws.{shifted-is}
-use Rattle.axis.proofs.ReadingLaws.{take-to, take-no}
-use Rattle.cyclic_link.specs.declared.Preset.{Preset}
-use Rattle.cyclic_link.specs.Classes.{Possible}
-use Rattle.cyclic.specs.declared.standing.Standing.{Standing}
-use Rattle.cyclic.specs.Preset.{presetBy, standing}
+use Rattle.integer.specs.Base.{_≡_, refl, ap, true, false, not, ℕ, _<_, arith, ℤ, pos, natAbs, _+ℤ_, _-ℤ_, nonNeg, T, not-false, not-true, w64, w32, Fits, SFits}
+use Rattle.integer.specs.Base.{toZ, ofZ, toZ-pos}
+use Rattle.integer.proofs.{signed, add-is, diff-is, reads, fits-abs}
+use Rattle.encoder.specs.{Units, InForce}
+use Rattle.axis_shaft.specs.{Reported, At, declared.Reported.the-variants.Refused, Shaft, Moved, To, moved, reportedAt}
+use Rattle.axis_offset.specs.{offsetBy}
+use Rattle.axis.specs.{Axis, rulesOn, Ready, unshiftedOf, positionOf, accepted, withShaft, asked, shifted, presetted}
+use Rattle.axis.proofs.{Limits, limits-of, apart-lt, asked-lt, put-is, unshifted-lt, ready-reported, position-is, position-always, shifted-is, take-to, take-no}
+use Rattle.cyclic_link.specs.{Preset, Possible}
+use Rattle.cyclic.specs.{Standing, presetBy, standing}
 use Rattle.cyclic.proofs.CycleKept.{read-ready}
 
 -- ---- the raw number

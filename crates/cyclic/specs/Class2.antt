@@ -1,13 +1,9 @@
 -- The cycle of class 2: 4 octets out, 4 in (document 01, "One cycle", its second paragraph).
 -- Assumes nothing.
-use Prim.Native.Nat.{ℕ}
-use mathlib.Core.Bool.{Bool}
-use mathlib.Core.List.{List}
-use Rattle.integer.specs.Octets.{bigEndian, octets}
-use Rattle.axis.specs.declared.Axis.{Axis}
-use Rattle.axis.specs.Limits.{rulesOn, positionOf}
-use Rattle.cyclic_link.specs.declared.Link.{Link}
-use Rattle.cyclic_link.specs.Class2.{preset}
+use Rattle.integer.specs.Base.{ℕ, Bool, List}
+use Rattle.integer.specs.{bigEndian, octets}
+use Rattle.axis.specs.{Axis, rulesOn, positionOf}
+use Rattle.cyclic_link.specs.{Link, Class2.preset}
 use Rattle.cyclic.specs.Preset.{presetBy}
 
 -- the output word

@@ -1,16 +1,11 @@
 -- The cycle of class 4, telegram 81: out STW2_ENC and G1_STW, in ZSW2_ENC, G1_ZSW, G1_XIST1 and G1_XIST2 (document 01, "One cycle", from its
 -- third paragraph on).
 -- Assumes nothing.
-use Prim.Native.Nat.{ℕ}
-use mathlib.Core.Bool.{Bool, cond}
-use mathlib.Core.List.{List, _++_}
-use Rattle.integer.specs.Bits.{bit}
-use Rattle.integer.specs.Octets.{part, bigEndian, octets}
-use Rattle.encoder.specs.Rows.{fieldsOf}
-use Rattle.axis.specs.declared.Axis.{Axis}
-use Rattle.axis.specs.Limits.{rulesOn, unshiftedOf, positionOf}
-use Rattle.cyclic_link.specs.declared.Link.{Link}
-use Rattle.cyclic_link.specs.Class4.{preset, zsw}
+use Rattle.integer.specs.Base.{ℕ, Bool, cond, List, _++_}
+use Rattle.integer.specs.{bit, part, bigEndian, octets}
+use Rattle.encoder.specs.{fieldsOf}
+use Rattle.axis.specs.{Axis, rulesOn, unshiftedOf, positionOf}
+use Rattle.cyclic_link.specs.{Link, Class4.preset, zsw}
 use Rattle.cyclic.specs.Preset.{presetBy}
 
 -- ---- the control words

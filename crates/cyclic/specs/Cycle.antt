@@ -1,22 +1,13 @@
 -- One cycle, put together from its parts (document 01, "One cycle"; rows 13 and 16): an axis runs the cycle of the class that its parameters
 -- came from.
 -- Assumes nothing.
-use Prim.Native.Nat.{ℕ}
-use mathlib.Core.Bool.{Bool, cond, not, _&&_}
-use mathlib.Core.List.{List}
-use lib.Dec.{eqb}
-use lib.ListN.{length}
-use Rattle.encoder.specs.declared.parameters.Parameters.{Parameters}
-use Rattle.encoder.specs.declared.effect.InForce.{InForce}
-use Rattle.encoder.specs.Refusal.{wrongBuffer, when, _before_, answer}
-use Rattle.encoder.specs.Rows.{fieldsOf}
-use Rattle.axis.specs.declared.Axis.{Axis}
-use Rattle.axis.specs.Limits.{rulesOn, axisRefusal}
-use Rattle.cyclic_link.specs.declared.Link.{Link}
+use Rattle.integer.specs.Base.{ℕ, Bool, cond, not, _&&_, List, eqb, length}
+use Rattle.encoder.specs.{Parameters, InForce, wrongBuffer, when, _before_, answer, fieldsOf}
+use Rattle.axis.specs.{Axis, rulesOn, axisRefusal}
+use Rattle.cyclic_link.specs.{Link}
+use Rattle.cyclic.specs.{declared.Cycled.Cycled, Raw.faultyAt, Raw.takenAt}
 use Rattle.cyclic_link.specs.Class2 as Link2
 use Rattle.cyclic_link.specs.Class4 as Link4
-use Rattle.cyclic.specs.declared.Cycled.{Cycled}
-use Rattle.cyclic.specs.Raw.{faultyAt, takenAt}
 use Rattle.cyclic.specs.Class2 as Class2
 use Rattle.cyclic.specs.Class4 as Class4
 

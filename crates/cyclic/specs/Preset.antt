@@ -1,10 +1,8 @@
 -- The preset that a cycle makes, and where the axis then stands (document 01, "One cycle").
 -- Assumes nothing.
-use mathlib.Core.Bool.{cond}
-use Rattle.axis.specs.declared.Axis.{Axis}
-use Rattle.axis.specs.Limits.{unshiftedOf, positionOf}
-use Rattle.axis.specs.Preset.{presetted}
-use Rattle.cyclic_link.specs.declared.Preset.{Preset}
+use Rattle.integer.specs.Base.{cond}
+use Rattle.axis.specs.{Axis, unshiftedOf, positionOf, presetted}
+use Rattle.cyclic_link.specs.{Preset}
 use Rattle.cyclic.specs.declared.standing.Standing.{Standing}
 
 -- the axis with the raw number taken: with the preset, if one is made

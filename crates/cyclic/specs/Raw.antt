@@ -1,10 +1,7 @@
 -- The raw number that a cycle takes first (document 01, "One cycle", its first paragraph).
 -- Assumes nothing.
-use Prim.Native.Nat.{ℕ}
-use mathlib.Core.Bool.{Bool, not}
-use lib.Dec.{eqb}
-use Rattle.axis.specs.declared.Axis.{Axis}
-use Rattle.axis.specs.Reading.{readRaw}
+use Rattle.integer.specs.Base.{ℕ, Bool, not, eqb}
+use Rattle.axis.specs.{Axis, readRaw}
 
 -- if 9 or 10 would refuse it, the cycle is faulty
 unfoldable pub faultyAt : Axis → ℕ → Bool

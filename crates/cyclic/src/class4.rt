@@ -1,13 +1,12 @@
 // The words of class 4, telegram 81 (document 01, "One cycle"): STW2_ENC and G1_STW out; ZSW2_ENC, G1_ZSW, G1_XIST1 and G1_XIST2 in.
-ghost use mathlib.Core.Path.{_≡_};
-ghost use lib.ListN.{length};
-ghost use Rattle.encoder.specs.Rows.{fieldsOf};
-ghost use Rattle.cyclic.specs.Preset.{standing};
+ghost use Rattle.integer.specs.Base.{_≡_, length};
+ghost use Rattle.encoder.specs.{fieldsOf};
+ghost use Rattle.cyclic.specs.{standing};
 ghost use Rattle.cyclic.specs.Class4 as Class4;
 use crate::standing::Standing;
-use encoder::parameters::Fields;
 use cyclic_link::Link;
 use cyclic_link::class4::zsw;
+use encoder::parameters::Fields;
 use octets::bit;
 use octets::number;
 use octets::put_number;

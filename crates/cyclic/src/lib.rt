@@ -2,21 +2,18 @@
 mod class4;
 mod standing;
 
-ghost use mathlib.Core.Path.{_≡_};
-ghost use mathlib.Core.Bool.{cond};
-ghost use lib.ListN.{length};
-ghost use Rattle.encoder.specs.Rows.{fieldsOf};
-ghost use Rattle.axis.specs.Limits.{Ready};
-ghost use Rattle.cyclic.specs.Preset.{standing};
-ghost use Rattle.cyclic.specs.Cycle.{inputOctets, lengthRefusal, wordBy, inputBy, axisAfter, linkLeft, inputLeft, done, cycle, cycleInput};
+ghost use Rattle.integer.specs.Base.{_≡_, length};
+ghost use Rattle.encoder.specs.{fieldsOf};
+ghost use Rattle.axis.specs.{Ready};
+ghost use Rattle.cyclic.specs.{standing, inputOctets, lengthRefusal, wordBy, inputBy, axisAfter, linkLeft, inputLeft, done, cycle, cycleInput};
 use axis::Axis;
+use cyclic_link::Link;
+use cyclic_link::react;
 use encoder::effect::Effect;
 use encoder::effect::InForce;
 use encoder::parameters::Fields;
 use encoder::refusal;
 use encoder::refusal::when;
-use cyclic_link::Link;
-use cyclic_link::react;
 use octets::number;
 use octets::put_number;
 use standing::Standing;
@@ -70,7 +67,10 @@ fn run(axis: Axis, link: Link, rules: InForce, raw: u32, output: &[u8], input: &
 fn length_refusal(class4: bool, output: usize, input: usize) -> u8
     ensures { λ r. ⌜ r ≡ lengthRefusal class4 output input ⌝ }
 {
-    when(!((output == 4) & (input == input_octets(class4))), refusal::BUFFER)
+    when(
+        !((output == 4) & (input == input_octets(class4))),
+        refusal::BUFFER,
+    )
 }
 
 // 4 octets come in, or 12 in telegram 81.

@@ -1,17 +1,16 @@
 // What a cycle does to an axis within its limits, under what is in force: the raw number, the preset, and where the axis then stands.
-ghost use mathlib.Core.Path.{_≡_};
-ghost use Rattle.axis.specs.Limits.{Ready};
-ghost use Rattle.axis.specs.Reading.{readRaw};
-ghost use Rattle.cyclic_link.specs.Classes.{Possible};
-ghost use Rattle.cyclic.specs.Preset.{presetBy, standing};
+ghost use Rattle.integer.specs.Base.{_≡_};
+ghost use Rattle.axis.specs.{Ready, readRaw};
+ghost use Rattle.cyclic_link.specs.{Possible};
+ghost use Rattle.cyclic.specs.{presetBy, standing};
 use axis::Axis;
 use axis::Next;
-use encoder::effect::InForce;
-use encoder::quantity::Units;
-use cyclic_link::Preset;
 use axis_offset::offset_by;
 use axis_shaft::Moved;
 use axis_shaft::Reported;
+use cyclic_link::Preset;
+use encoder::effect::InForce;
+use encoder::quantity::Units;
 
 // An axis and its two positions.
 pub(crate) struct Standing {

@@ -1,12 +1,9 @@
 -- Acknowledging, by the link alone (document 01, "One cycle", its last paragraph): bit 15 is 1 in one cycle and 0 in the next, which is not
 -- faulty. By whether the first leaves an error held: one that is held under bit 15 is seen to be acknowledged.
 -- Assumes nothing.
-use mathlib.Core.Path.{_≡_, refl}
-use mathlib.Core.Bool.{Bool, true, false, and-true}
-use Prim.Native.Nat.{ℕ}
-use Rattle.encoder.specs.declared.effect.InForce.{InForce}
-use Rattle.cyclic_link.specs.declared.Link.{Link}
-use Rattle.cyclic_link.specs.Class4.{acknowledges, held, link}
+use Rattle.integer.specs.Base.{_≡_, refl, Bool, true, false, and-true, ℕ}
+use Rattle.encoder.specs.{InForce}
+use Rattle.cyclic_link.specs.{Link, acknowledges, held, Class4.link}
 
 gone-by : (j : Link) (word : ℕ) (h : Bool) → j .error ≡ h → j .acknowledged ≡ h → acknowledges word ≡ false → held j false word ≡ false
 unfolding held

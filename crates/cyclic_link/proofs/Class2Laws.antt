@@ -1,21 +1,12 @@
 -- Class 2: what a cycle makes of its word, and what a preset that is made tells. The value is a mask, which is a remainder.
 -- Assumes nothing.
-use mathlib.Core.Path.{_≡_}
-use mathlib.Core.Bool.{Bool, true, false, not, _&&_}
-use Prim.Native.Nat.{ℕ, _^_, _<_}
-use native.Mathlib.Omega.{arith}
-use lib.Dec.{ltb}
-use lib.Bits.{bitAnd, and-mask, and-le-r}
-use borrow.Author.Tests.{ltb-true}
-use mir.Syntax.{w64}
-use mir.Val.{toZ}
-use mir.ValLaws.{toZ-pos}
-use Rattle.integer.specs.Bits.{bit}
-use Rattle.encoder.specs.declared.effect.InForce.{InForce}
-use Rattle.encoder.proofs.PlateLaws.{and-split}
-use Rattle.cyclic_link.specs.declared.Link.{Link}
-use Rattle.cyclic_link.specs.declared.Reaction.{Reaction}
-use Rattle.cyclic_link.specs.Class2.{asked, value, made, link, reaction}
+pub use borrow.Author.Needs.{needs}
+use Rattle.integer.specs.Base.{_≡_, Bool, true, false, not, _&&_, ℕ, _^_, _<_, arith, ltb, bitAnd, and-mask, ltb-true, w64, toZ, toZ-pos}
+use Rattle.integer.specs.{bit}
+use Rattle.encoder.specs.{InForce}
+use Rattle.encoder.proofs.{and-split}
+use Rattle.cyclic_link.specs.{Link, Reaction, Class2.asked, value, Class2.made, Class2.link, Class2.reaction}
+use lib.{Bits.and-le-r}
 
 pub value-is : (w : ℕ) → bitAnd w 0x7fffffff ≡ value w
 value-is w = and-mask w 31

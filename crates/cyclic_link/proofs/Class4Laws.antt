@@ -1,22 +1,13 @@
 -- Class 4: what a cycle makes of its word, what a preset that is made tells, and the status word. The bits of the status word do not overlap, so that their or is their sum.
 -- Assumes nothing.
-use mathlib.Core.Path.{_≡_, _∙_}
-use mathlib.Core.Bool.{Bool, true, not, _&&_, _||_}
-use Prim.Native.Nat.{ℕ, _+_, _*_, _/_, _%_, _^_, _<_}
-use native.Mathlib.Omega.{arith}
+use Rattle.integer.specs.Base.{_≡_, _∙_, Bool, true, not, _&&_, _||_, ℕ, _+_, _*_, _/_, _%_, _^_, _<_, arith, ℤ, w64, SFits, toZ, ofZ, boolByte}
+use Rattle.integer.specs.{bit}
+use Rattle.integer.proofs.{reads, flag-lt, at-is}
+use Rattle.encoder.specs.{InForce}
+use Rattle.encoder.proofs.{and-split}
+use Rattle.cyclic_link.specs.{Link, Reaction, Class4.asked, heldBy, held, Class4.made, Class4.link, Class4.reaction, zsw}
+use lib.{Bits.bitOr, Bits.or-shifted}
 use native.Mathlib.Nat as N
-use lib.Bits.{bitOr, or-shifted}
-use lib.IntN.{ℤ}
-use mir.Syntax.{w64}
-use mir.Val.{SFits, toZ, ofZ, boolByte}
-use Rattle.integer.proofs.Size.{reads}
-use Rattle.integer.proofs.Bits.{flag-lt, at-is}
-use Rattle.integer.specs.Bits.{bit}
-use Rattle.encoder.specs.declared.effect.InForce.{InForce}
-use Rattle.encoder.proofs.PlateLaws.{and-split}
-use Rattle.cyclic_link.specs.declared.Link.{Link}
-use Rattle.cyclic_link.specs.declared.Reaction.{Reaction}
-use Rattle.cyclic_link.specs.Class4.{asked, heldBy, held, made, link, reaction, zsw}
 
 module _ (f : InForce) (k : Link) (faulty : Bool) (w : ℕ) where
   pub reaction-is : (acknowledge asks park error relative : Bool) (s : ℤ) → acknowledge ≡ bit 15 w → asks ≡ bit 12 w → park ≡ bit 14 w

@@ -1,11 +1,8 @@
 -- The preset that a cycle makes, of either class, is one that nothing refuses: class 2 has tested its value, and class 4 holds one within the limits.
 -- Assumes nothing.
-use mathlib.Core.Bool.{Bool, true, false}
-use Prim.Native.Nat.{ℕ, _<_}
-use lib.IntN.{ℤ, natAbs}
-use Rattle.encoder.specs.declared.effect.InForce.{InForce}
-use Rattle.cyclic_link.specs.declared.Link.{Link}
-use Rattle.cyclic_link.specs.Classes.{reaction, Possible}
+use Rattle.integer.specs.Base.{Bool, true, false, ℕ, _<_, ℤ, natAbs}
+use Rattle.encoder.specs.{InForce}
+use Rattle.cyclic_link.specs.{Link, Classes.reaction, Possible}
 use Rattle.cyclic_link.proofs.Class2Laws as Class2
 use Rattle.cyclic_link.proofs.Class4Laws as Class4
 

@@ -1,14 +1,9 @@
 -- What a cycle of class 2 makes of its output word (document 01, "One cycle", its second paragraph).
 -- Assumes nothing.
-use Prim.Native.Nat.{ℕ, _%_, _^_}
-use mathlib.Core.Bool.{Bool, false, not, _&&_}
-use lib.Dec.{ltb}
-use lib.IntN.{pos}
-use Rattle.integer.specs.Bits.{bit}
-use Rattle.encoder.specs.declared.effect.InForce.{InForce}
-use Rattle.cyclic_link.specs.declared.Link.{Link}
-use Rattle.cyclic_link.specs.declared.Preset.{Preset}
-use Rattle.cyclic_link.specs.declared.Reaction.{Reaction}
+use Rattle.integer.specs.Base.{ℕ, _%_, _^_, Bool, false, not, _&&_, ltb, pos}
+use Rattle.integer.specs.{bit}
+use Rattle.encoder.specs.{InForce}
+use Rattle.cyclic_link.specs.{declared.Link.Link, declared.Preset.Preset, declared.Reaction.Reaction}
 
 -- bit 31 of the output asks for an absolute preset ..
 abbrev pub asked : ℕ → Bool

@@ -1,13 +1,9 @@
 -- What a cycle of class 4 makes of G1_STW, as counted, and G1_ZSW (document 01, "One cycle", its table and what stands below it).
 -- Assumes nothing.
-use Prim.Native.Nat.{ℕ, _+_}
-use mathlib.Core.Bool.{Bool, cond, not, _&&_, _||_}
-use lib.IntN.{ℤ}
-use Rattle.integer.specs.Bits.{bit, at}
-use Rattle.encoder.specs.declared.effect.InForce.{InForce}
-use Rattle.cyclic_link.specs.declared.Link.{Link}
-use Rattle.cyclic_link.specs.declared.Preset.{Preset}
-use Rattle.cyclic_link.specs.declared.Reaction.{Reaction}
+use Rattle.integer.specs.Base.{ℕ, _+_, Bool, cond, not, _&&_, _||_, ℤ}
+use Rattle.integer.specs.{bit, at}
+use Rattle.encoder.specs.{InForce}
+use Rattle.cyclic_link.specs.{declared.Link.Link, declared.Preset.Preset, declared.Reaction.Reaction}
 
 -- ---- the bits of G1_STW; bit 13 is ignored
 abbrev pub acknowledges : ℕ → Bool

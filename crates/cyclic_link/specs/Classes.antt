@@ -1,13 +1,8 @@
 -- What a cycle of either class makes of its control word: the next link, and the preset (document 01, "One cycle").
 -- Assumes nothing.
-use Prim.Native.Nat.{ℕ, _<_}
-use mathlib.Core.Path.{_≡_}
-use mathlib.Core.Bool.{Bool, true, cond}
-use lib.IntN.{ℤ, natAbs}
-use Rattle.encoder.specs.declared.effect.InForce.{InForce}
-use Rattle.cyclic_link.specs.declared.Link.{Link}
-use Rattle.cyclic_link.specs.declared.Preset.{Preset}
-use Rattle.cyclic_link.specs.declared.Reaction.{Reaction}
+use Rattle.integer.specs.Base.{ℕ, _<_, _≡_, Bool, true, cond, ℤ, natAbs}
+use Rattle.encoder.specs.{InForce}
+use Rattle.cyclic_link.specs.{declared.Link.Link, declared.Preset.Preset, declared.Reaction.Reaction}
 use Rattle.cyclic_link.specs.Class2 as Class2
 use Rattle.cyclic_link.specs.Class4 as Class4
 

@@ -1,6 +1,6 @@
 -- The link record at the start (document 01, "One cycle", its first paragraph).
 -- Assumes nothing.
-use mathlib.Core.Bool.{false}
+use Rattle.integer.specs.Base.{false}
 use Rattle.cyclic_link.specs.declared.Link.{Link}
 
 -- all 0 at the start

@@ -1,6 +1,5 @@
 // Class 2: bit 31 of the output asks for a preset of bits 0 to 30.
-ghost use mathlib.Core.Path.{_≡_};
-ghost use Prim.Native.Nat.{_<_, _^_};
+ghost use Rattle.integer.specs.Base.{_≡_, _<_, _^_};
 ghost use Rattle.cyclic_link.specs.Class2 as Class2;
 use crate::Link;
 use crate::Preset;

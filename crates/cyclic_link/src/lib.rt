@@ -2,9 +2,8 @@
 mod class2;
 pub mod class4;
 
-ghost use mathlib.Core.Path.{_≡_};
-ghost use Rattle.cyclic_link.specs.Quiet.{quiet};
-ghost use Rattle.cyclic_link.specs.Classes.{reaction};
+ghost use Rattle.integer.specs.Base.{_≡_};
+ghost use Rattle.cyclic_link.specs.{quiet, Classes.reaction};
 use encoder::effect::InForce;
 
 // What one cycle leaves for the next. Everything is 0 at the start.

@@ -1,23 +1,14 @@
 -- The four parts of the diagnosis one behind the other; and what its number tells.
 -- Assumes nothing.
-use mathlib.Core.Path.{_≡_, refl, sym, _∙_}
-use mathlib.Core.Bool.{true}
-use mathlib.Core.List.{List, _++_}
-use Prim.Native.Nat.{ℕ}
-use lib.ListN.{length}
-use borrow.Author.Tests.{eqb-true}
-use borrow.Rule.Slice.PartMut.{putMid, postOf}
-use Rattle.integer.specs.Octets.{octets}
-use Rattle.integer.proofs.Octets.{four-parts}
-use Rattle.encoder.specs.declared.effect.InForce.{InForce}
-use Rattle.encoder.specs.declared.effect.Effect.{Effect}
-use Rattle.encoder.specs.declared.effect.Effect.the-variants.{Taken}
-use Rattle.encoder.proofs.RefusalLaws.{exits, when-none, before-none}
-use Rattle.axis.specs.declared.Axis.{Axis}
-use Rattle.axis.specs.Limits.{Ready, axisRefusal, inForceOn}
-use Rattle.axis.proofs.AxisLaws.{ready-of, outside-answer}
-use Rattle.cyclic_link.specs.declared.Link.{Link}
-use Rattle.diagnosis.specs.Diagnosis.{lengthBy, general, versions, values, identity, report, diagnosisRefusal}
+use Rattle.integer.specs.Base.{_≡_, refl, sym, _∙_, true, List, _++_, ℕ, length, eqb-true, putMid, postOf}
+use Rattle.integer.specs.{octets}
+use Rattle.integer.proofs.{four-parts}
+use Rattle.encoder.specs.{InForce, Effect, Taken}
+use Rattle.encoder.proofs.{exits, when-none, before-none}
+use Rattle.axis.specs.{Axis, Ready, axisRefusal, inForceOn}
+use Rattle.axis.proofs.{ready-of, outside-answer}
+use Rattle.cyclic_link.specs.{Link}
+use Rattle.diagnosis.specs.{lengthBy, general, versions, values, identity, report, diagnosisRefusal}
 
 -- ---- the parts in a buffer of 57 octets
 module _ (t g v w i : List ℕ) (a : Axis) (f : InForce) (r : Ready a f) (k : Link) where

@@ -1,14 +1,13 @@
 // The four parts of the diagnosis, each in its own stretch of the buffer.
-ghost use mathlib.Core.Path.{_≡_};
-ghost use lib.ListN.{length};
-ghost use Rattle.axis.specs.Limits.{Ready};
-ghost use Rattle.diagnosis.specs.Diagnosis.{operatingOctet, general, versions, complement, fourNumbers, values, identity};
+ghost use Rattle.integer.specs.Base.{_≡_, length};
+ghost use Rattle.axis.specs.{Ready};
+ghost use Rattle.diagnosis.specs.{operatingOctet, general, versions, complement, fourNumbers, values, identity};
 use crate::size;
 use axis::Axis;
+use cyclic_link::Link;
 use encoder::effect::InForce;
 use encoder::nameplate::Nameplate;
 use encoder::parameters::Fields;
-use cyclic_link::Link;
 use octets::put_number;
 
 // Octets 7 to 16.

@@ -1,25 +1,9 @@
 -- What is in force, with scaling on and off, and what the callees ask of a plate whose parameters are taken; and the answer taken apart.
 -- Assumes nothing.
-use mathlib.Core.Path.{_≡_, refl, sym, _∙_}
-use mathlib.Core.Bool.{Bool, true, false}
-use Prim.Native.Nat.{ℕ, zero, suc}
-use native.Mathlib.Omega.{arith}
-use mir.Syntax.{w32}
-use mir.Val.{Fits}
-use Rattle.encoder.specs.declared.quantity.Steps.{Steps}
-use Rattle.encoder.specs.declared.nameplate.Nameplate.{Nameplate}
-use Rattle.encoder.specs.declared.parameters.Parameters.{Parameters}
-use Rattle.encoder.specs.declared.parameters.Fields.{Fields}
-use Rattle.encoder.specs.declared.effect.InForce.{InForce}
-use Rattle.encoder.specs.declared.effect.Effect.{Effect}
-use Rattle.encoder.specs.declared.effect.Effect.the-variants.{Taken, Refused}
-use Rattle.encoder.specs.Refusal.{answer}
-use Rattle.encoder.specs.Plate.{plateRefusal, capacityOf}
-use Rattle.encoder.specs.Operating.{classOn, scalingOn, reversedBy}
-use Rattle.encoder.specs.Rows.{fieldsOf, refusalOn}
-use Rattle.encoder.specs.Force.{rulesOf, inForce}
-use Rattle.encoder.proofs.RefusalLaws.{exits, before-none}
-use Rattle.encoder.proofs.PlateLaws.{plated}
+use Rattle.integer.specs.Base.{_≡_, refl, sym, _∙_, Bool, true, false, ℕ, zero, suc, arith, w32, Fits}
+use Rattle.encoder.specs.{Steps, Nameplate, Parameters, Fields, InForce, Effect, Taken, Refused, answer, plateRefusal, capacityOf, classOn, scalingOn}
+use Rattle.encoder.specs.{reversedBy, fieldsOf, refusalOn, rulesOf, inForce}
+use Rattle.encoder.proofs.{RefusalLaws.exits, RefusalLaws.before-none, PlateLaws.plated}
 
 module _ (n : Nameplate) (p : Parameters) where
   -- parameters that are taken have a plate that is not refused, and so has each way on

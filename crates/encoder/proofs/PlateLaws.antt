@@ -1,16 +1,10 @@
 -- What holds of a nameplate that is not refused: its bounds, one by one, and that its capacity fits.
 -- Assumes nothing.
-use mathlib.Core.Path.{_≡_, refl}
-use mathlib.Core.Bool.{Bool, true, false, _&&_, false≢true}
-use Prim.Native.Nat.{ℕ, _*_, _^_, _≤_}
-use native.Mathlib.Omega.{arith}
-use native.Mathlib.Nat as N
-use borrow.Author.Tests.{leb-true}
-use mir.Syntax.{w64, w32}
-use mir.Val.{Fits}
-use Rattle.encoder.specs.declared.nameplate.Nameplate.{Nameplate}
-use Rattle.encoder.specs.Plate.{plateRefusal, capacityOf}
+pub use borrow.Author.Needs.{needs}
+use Rattle.integer.specs.Base.{_≡_, refl, Bool, true, false, _&&_, false≢true, ℕ, _*_, _^_, _≤_, arith, leb-true, w64, w32, Fits}
+use Rattle.encoder.specs.{Nameplate, plateRefusal, capacityOf}
 use Rattle.encoder.proofs.RefusalLaws.{when-none}
+use native.Mathlib.Nat as N
 
 -- a product of two numbers of 32 bits, as M × T
 pub fits-product : (a b : ℕ) → Fits w32 a → Fits w32 b → Fits w64 (a * b)

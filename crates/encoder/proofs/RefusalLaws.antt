@@ -1,11 +1,7 @@
 -- An answer and a kept buffer by the number of the refusal, and what a number that is 0 tells of its tests.
 -- Assumes nothing.
-use Prim.Native.Nat.{ℕ, zero, suc}
-use mathlib.Core.Path.{_≡_, refl, sym, _∙_}
-use mathlib.Core.Bool.{Bool, true, false, not}
-use native.Mathlib.Omega.{arith}
-use borrow.Author.Tests.{not-false}
-use Rattle.encoder.specs.Refusal.{when, _before_, answer}
+use Rattle.integer.specs.Base.{ℕ, zero, suc, _≡_, refl, sym, _∙_, Bool, true, false, not, arith, not-false}
+use Rattle.encoder.specs.{when, _before_, answer}
 
 pub refused-is : {A : Type 0} (refused : ℕ → A) (taken : A) (k : ℕ) → (k ≡ 0 → ⊥) → answer refused taken k ≡ refused k
 refused-is refused taken zero h = absurd (h refl)

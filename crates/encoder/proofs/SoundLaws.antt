@@ -1,22 +1,10 @@
 -- What parameters that are taken put in force is within the limits: M and L by rows 4 and 5 with scaling on, and by the nameplate without.
 -- Assumes nothing.
-use mathlib.Core.Path.{_≡_, refl}
-use mathlib.Core.Bool.{Bool, true, false, _||_, true≢false}
-use Prim.Native.Nat.{_*_, _^_, _≤_}
-use native.Mathlib.Omega.{arith}
+use Rattle.integer.specs.Base.{_≡_, refl, Bool, true, false, _||_, true≢false, _*_, _^_, _≤_, arith, leb-true, le-leb, ltb-false, eqb-false}
+use Rattle.encoder.specs.{Nameplate, Parameters, Fields, InForce, reservedBit, revolutionUnits, totalRange, when, plateRefusal, capacityOf, scalingOn}
+use Rattle.encoder.specs.{reservedWrong, fieldsOf, unitsWrong, rangeWrong, fieldsRefusal, refusalOn, scaleOf, spanOf, rulesOf, rulesFit, Sound}
+use Rattle.encoder.proofs.{RefusalLaws.before-none, RefusalLaws.when-not, PlateLaws.and-split, PlateLaws.plated, PlateLaws.capacity-most}
 use native.Mathlib.Nat as N
-use borrow.Author.Tests.{leb-true, le-leb, ltb-false, eqb-false}
-use Rattle.encoder.specs.declared.nameplate.Nameplate.{Nameplate}
-use Rattle.encoder.specs.declared.parameters.Parameters.{Parameters}
-use Rattle.encoder.specs.declared.parameters.Fields.{Fields}
-use Rattle.encoder.specs.declared.effect.InForce.{InForce}
-use Rattle.encoder.specs.Refusal.{reservedBit, revolutionUnits, totalRange, when}
-use Rattle.encoder.specs.Plate.{plateRefusal, capacityOf}
-use Rattle.encoder.specs.Operating.{scalingOn, reservedWrong}
-use Rattle.encoder.specs.Rows.{fieldsOf, unitsWrong, rangeWrong, fieldsRefusal, refusalOn}
-use Rattle.encoder.specs.Force.{scaleOf, spanOf, rulesOf, rulesFit, Sound}
-use Rattle.encoder.proofs.RefusalLaws.{before-none, when-not}
-use Rattle.encoder.proofs.PlateLaws.{and-split, plated, capacity-most}
 
 -- ---- the limits, as tests and as facts
 pub sound-of : (f : InForce) → rulesFit f ≡ true → Sound f

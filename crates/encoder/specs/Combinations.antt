@@ -2,15 +2,10 @@
 -- class bit and the scaling bit are both 1. Then M is the revolution units and L the total range. Otherwise M = R and L = C [..]. With the
 -- class bit 0 no preset is made; class 2 still obeys the code sequence, class 4 does not."
 -- Assumes nothing.
-use Prim.Native.Nat.{ℕ}
-use mathlib.Core.Bool.{Bool, true, false}
-use mathlib.Core.List.{List, [], _∷_}
-use Rattle.encoder.specs.declared.nameplate.Nameplate.{Nameplate}
-use Rattle.encoder.specs.declared.parameters.Parameters.{Parameters}
-use Rattle.encoder.specs.declared.parameters.Parameters.the-variants.{Class2, Class4}
-use Rattle.encoder.specs.declared.effect.Effect.{Effect}
-use Rattle.encoder.specs.declared.effect.Effect.the-variants.{Taken}
-use Rattle.encoder.specs.Plate.{plainPlate}
+use Rattle.integer.specs.Base.{ℕ, Bool, true, false, List, [], _∷_}
+use Rattle.encoder.specs.{declared.nameplate.Nameplate.Nameplate, declared.parameters.Parameters.Parameters}
+use Rattle.encoder.specs.{declared.parameters.Parameters.the-variants.Class2, declared.parameters.Parameters.the-variants.Class4}
+use Rattle.encoder.specs.{declared.effect.Effect.Effect, declared.effect.Effect.the-variants.Taken, Plate.plainPlate}
 
 -- R = 10, T = 3, so C = 30
 abbrev pub plate : Nameplate

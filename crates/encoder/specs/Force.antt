@@ -1,18 +1,10 @@
 -- What plate and parameters put in force (document 01, end of "Class 4 block").
 -- Assumes nothing.
-use Prim.Native.Nat.{ℕ, _^_, _≤_}
-use mathlib.Core.Bool.{Bool, cond, _&&_}
-use lib.Dec.{leb}
-use Rattle.encoder.specs.declared.nameplate.Nameplate.{Nameplate}
-use Rattle.encoder.specs.declared.parameters.Parameters.{Parameters}
-use Rattle.encoder.specs.declared.parameters.Fields.{Fields}
-use Rattle.encoder.specs.declared.effect.InForce.{InForce}
-use Rattle.encoder.specs.declared.effect.Effect.{Effect}
-use Rattle.encoder.specs.declared.effect.Effect.the-variants.{Taken, Refused}
-use Rattle.encoder.specs.Refusal.{answer}
-use Rattle.encoder.specs.Plate.{capacityOf}
-use Rattle.encoder.specs.Operating.{classOn, scalingOn, reversedBy}
-use Rattle.encoder.specs.Rows.{fieldsOf, refusalOn}
+use Rattle.integer.specs.Base.{ℕ, _^_, _≤_, Bool, cond, _&&_, leb}
+use Rattle.encoder.specs.{declared.nameplate.Nameplate.Nameplate, declared.parameters.Parameters.Parameters, declared.parameters.Fields.Fields}
+use Rattle.encoder.specs.{declared.effect.InForce.InForce, declared.effect.Effect.Effect, declared.effect.Effect.the-variants.Taken}
+use Rattle.encoder.specs.{declared.effect.Effect.the-variants.Refused, Refusal.answer, Plate.capacityOf, Operating.classOn, Operating.scalingOn}
+use Rattle.encoder.specs.{Operating.reversedBy, Rows.fieldsOf, Rows.refusalOn}
 
 -- M and L: the fields as sent with scaling in force, otherwise R and C
 abbrev pub scaleOf : Nameplate → Fields → ℕ

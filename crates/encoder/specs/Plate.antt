@@ -1,11 +1,7 @@
 -- The nameplate (document 01, "Plate and reading"; row 7 of "When a call is turned away").
 -- Assumes nothing.
-use Prim.Native.Nat.{ℕ, _*_}
-use mathlib.Core.Bool.{not, _&&_}
-use lib.Dec.{leb}
-use lib.ListN.{replicate}
-use Rattle.encoder.specs.declared.nameplate.Nameplate.{Nameplate}
-use Rattle.encoder.specs.Refusal.{wrongPlate, when}
+use Rattle.integer.specs.Base.{ℕ, _*_, not, _&&_, leb, replicate}
+use Rattle.encoder.specs.{declared.nameplate.Nameplate.Nameplate, Refusal.wrongPlate, Refusal.when}
 
 -- 7, unless R is 2 to 65,536 and T is 1 to 32,768; the other fields may be anything
 unfoldable pub plateRefusal : Nameplate → ℕ

@@ -1,7 +1,6 @@
 -- The numbers of the refusals, named after the trade's words (document 01, "When a call is turned away"), and what an answer is by them.
 -- Assumes nothing.
-use Prim.Native.Nat.{ℕ, zero, suc}
-use mathlib.Core.Bool.{Bool, true, false}
+use Rattle.integer.specs.Base.{ℕ, zero, suc, Bool, true, false}
 
 -- length: telegram not 17 octets, block not 11
 abbrev pub wrongLength : ℕ

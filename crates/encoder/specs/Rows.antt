@@ -1,15 +1,10 @@
 -- The parameters of both classes (document 01, "Class 2 telegram", "Class 4 block"; rows 4 to 7 of "When a call is turned away").
 -- Assumes nothing.
-use Prim.Native.Nat.{ℕ, _*_}
-use mathlib.Core.Bool.{Bool, true, false, _&&_, _||_}
-use lib.Dec.{eqb, ltb}
-use Rattle.encoder.specs.declared.nameplate.Nameplate.{Nameplate}
-use Rattle.encoder.specs.declared.parameters.Parameters.{Parameters}
-use Rattle.encoder.specs.declared.parameters.Parameters.the-variants.{Class2, Class4}
-use Rattle.encoder.specs.declared.parameters.Fields.{Fields}
-use Rattle.encoder.specs.Refusal.{reservedBit, revolutionUnits, totalRange, speedUnit, when, _before_}
-use Rattle.encoder.specs.Plate.{plateRefusal}
-use Rattle.encoder.specs.Operating.{scalingOn, reservedWrong}
+use Rattle.integer.specs.Base.{ℕ, _*_, Bool, true, false, _&&_, _||_, eqb, ltb}
+use Rattle.encoder.specs.{declared.nameplate.Nameplate.Nameplate, declared.parameters.Parameters.Parameters}
+use Rattle.encoder.specs.{declared.parameters.Parameters.the-variants.Class2, declared.parameters.Parameters.the-variants.Class4}
+use Rattle.encoder.specs.{declared.parameters.Fields.Fields, Refusal.reservedBit, Refusal.revolutionUnits, Refusal.totalRange, Refusal.speedUnit, Refusal.when}
+use Rattle.encoder.specs.{Refusal._before_, Plate.plateRefusal, Operating.scalingOn, Operating.reservedWrong}
 
 -- the fields by which parameters are judged; class 2 has no speed unit and uses unit 0
 abbrev pub fieldsOf : Parameters → Fields

@@ -1,6 +1,6 @@
 // What plate and parameters put in force (document 01, "Class 4 block", its last paragraph).
-ghost use mathlib.Core.Path.{_≡_};
-ghost use Rattle.encoder.specs.Force.{inForce};
+ghost use Rattle.integer.specs.Base.{_≡_};
+ghost use Rattle.encoder.specs.{inForce};
 use crate::nameplate::Nameplate;
 use crate::operating::class_on;
 use crate::operating::reversed;

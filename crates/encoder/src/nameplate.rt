@@ -1,7 +1,6 @@
 // The nameplate of a device (document 01, "Plate and reading").
-ghost use mathlib.Core.Path.{_≡_};
-ghost use Prim.Native.Nat.{_≤_, _^_};
-ghost use Rattle.encoder.specs.Plate.{plateRefusal, capacityOf, plainPlate};
+ghost use Rattle.integer.specs.Base.{_≡_, _≤_, _^_};
+ghost use Rattle.encoder.specs.{plateRefusal, capacityOf, plainPlate};
 use crate::quantity::Steps;
 use crate::quantity::Turns;
 use crate::refusal;

@@ -1,6 +1,6 @@
 // The octet of operating parameters: octet 9 of a class 2 telegram, octet 1 of a class 4 block.
-ghost use mathlib.Core.Path.{_≡_};
-ghost use Rattle.encoder.specs.Operating.{classOn, scalingOn, reversedBy, reservedWrong};
+ghost use Rattle.integer.specs.Base.{_≡_};
+ghost use Rattle.encoder.specs.{classOn, scalingOn, reversedBy, reservedWrong};
 use octets::bit;
 
 // The class is on.

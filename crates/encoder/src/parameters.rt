@@ -1,6 +1,6 @@
 // The parameters of both classes, kept as sent, and what they are refused for (document 01, "Class 2 telegram" and "Class 4 block").
-ghost use mathlib.Core.Path.{_≡_};
-ghost use Rattle.encoder.specs.Rows.{fieldsOf, fieldsRefusal, refusalOn};
+ghost use Rattle.integer.specs.Base.{_≡_};
+ghost use Rattle.encoder.specs.{fieldsOf, fieldsRefusal, refusalOn};
 use crate::nameplate::Nameplate;
 use crate::operating::reserved;
 use crate::operating::scaling;

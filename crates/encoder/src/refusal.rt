@@ -1,6 +1,6 @@
 // The numbers of the refusals, named after the trade's words (document 01, "When a call is turned away"), and their order.
-ghost use mathlib.Core.Path.{_≡_};
-ghost use Rattle.encoder.specs.Refusal.{when, _before_};
+ghost use Rattle.integer.specs.Base.{_≡_};
+ghost use Rattle.encoder.specs.{when, _before_};
 
 // Telegram not 17 octets, block not 11.
 pub const LENGTH: u8 = 1;

@@ -1,19 +1,12 @@
 -- Parameters as numbers in a lent list: what a reader answers fills it, or is the refusal.
 -- Assumes nothing.
-use mathlib.Core.Path.{_≡_, refl}
-use mathlib.Core.List.{List, [], _∷_}
-use Prim.Native.Nat.{ℕ, zero, suc}
-use lib.ListN.{length, set}
-use borrow.Author.Tests.{eq-eqb, ne-eqb}
-use Rattle.integer.proofs.Octets.{known}
-use Rattle.encoder.specs.declared.nameplate.Nameplate.{Nameplate}
-use Rattle.encoder.specs.declared.parameters.Parameters.{Parameters}
-use Rattle.encoder.specs.Refusal.{answer}
-use Rattle.encoder.proofs.RefusalLaws.{stepwise, number-is, kept-is}
-use Rattle.parameters_reader.specs.declared.Received.{Received}
-use Rattle.parameters_reader.specs.declared.Received.the-variants.{Taken, Refused}
-use Rattle.parameters_reader.specs.Read.{telegramRefusal, telegramParameters, readTelegram, blockRefusal, blockParameters, readBlock}
-use Rattle.exports.specs.Numbers.{numbersOf, Fills, readersRefusal, takeRefusal, numbersIn, taken}
+pub use borrow.Author.Needs.{needs}
+use Rattle.integer.specs.Base.{_≡_, refl, List, [], _∷_, ℕ, zero, suc, length, set, eq-eqb, ne-eqb}
+use Rattle.integer.proofs.{known}
+use Rattle.encoder.specs.{Nameplate, Parameters, answer}
+use Rattle.encoder.proofs.{stepwise, number-is, kept-is}
+use Rattle.parameters_reader.specs.{Received, Taken, Refused, telegramRefusal, telegramParameters, readTelegram, blockRefusal, blockParameters, readBlock}
+use Rattle.exports.specs.{numbersOf, Fills, readersRefusal, takeRefusal, numbersIn, taken}
 
 -- ---- stores fill a list
 pub three-filled : (l : List ℕ) (a b c : ℕ) → length l ≡ 3 → set (set (set l 0 a) 1 b) 2 c ≡ (a ∷ b ∷ c ∷ [])

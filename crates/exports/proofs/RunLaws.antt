@@ -1,20 +1,11 @@
 -- A batch from its start on: each way out, by the answers of the calls on that way.
 -- Assumes nothing.
-use mathlib.Core.Path.{_≡_, refl, _∙_}
-use mathlib.Core.List.{List}
-use Prim.Native.Nat.{ℕ, zero, suc}
-use lib.ListN.{length}
-use borrow.Author.Tests.{eq-eqb, ne-eqb}
-use Rattle.encoder.specs.declared.nameplate.Nameplate.{Nameplate}
-use Rattle.encoder.specs.declared.parameters.Parameters.{Parameters}
-use Rattle.encoder.specs.Refusal.{_before_, answer}
-use Rattle.encoder.specs.Plate.{plateRefusal}
-use Rattle.encoder.proofs.RefusalLaws.{first-no, number-is}
-use Rattle.axis.specs.declared.Axis.{Axis}
-use Rattle.axis.specs.declared.Next.{Next}
-use Rattle.axis.specs.Reading.{next, startRaw}
-use Rattle.axis_batch.specs.Batch.{after, positionsOf, batchRefusal, batch, batchList}
-use Rattle.exports.specs.Run.{runRefusal, ran}
+use Rattle.integer.specs.Base.{_≡_, refl, _∙_, List, ℕ, zero, suc, length, eq-eqb, ne-eqb}
+use Rattle.encoder.specs.{Nameplate, Parameters, _before_, answer, plateRefusal}
+use Rattle.encoder.proofs.{first-no, number-is}
+use Rattle.axis.specs.{Axis, Next, next, startRaw}
+use Rattle.axis_batch.specs.{after, positionsOf, batchRefusal, batch, batchList}
+use Rattle.exports.specs.{runRefusal, ran}
 
 -- a batch that is refused keeps its list, so that its list is by its number either way
 list-by : (a : Axis) (raws out : List ℕ) → batchList a raws out ≡ answer (λ (_ : ℕ). out) (batchList a raws out) (batch a raws out .refusal)

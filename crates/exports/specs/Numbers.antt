@@ -1,18 +1,8 @@
 -- Parameters as plain numbers, as other languages bring and take them.
 -- Assumes nothing.
-use Prim.Native.Nat.{ℕ}
-use mathlib.Core.Path.{_≡_}
-use mathlib.Core.Bool.{cond, not}
-use mathlib.Core.List.{List, [], _∷_}
-use lib.Dec.{eqb}
-use lib.ListN.{length}
-use Rattle.encoder.specs.declared.nameplate.Nameplate.{Nameplate}
-use Rattle.encoder.specs.declared.parameters.Parameters.{Parameters}
-use Rattle.encoder.specs.declared.parameters.Parameters.the-variants.{Class2, Class4}
-use Rattle.encoder.specs.Refusal.{wrongBuffer, when, _before_, answer}
-use Rattle.encoder.specs.Plate.{plateRefusal}
-use Rattle.parameters_reader.specs.declared.Received.{Received}
-use Rattle.parameters_reader.specs.declared.Received.the-variants.{Taken, Refused}
+use Rattle.integer.specs.Base.{ℕ, _≡_, cond, not, List, [], _∷_, eqb, length}
+use Rattle.encoder.specs.{Nameplate, Parameters, Class2, Class4, wrongBuffer, when, _before_, answer, plateRefusal}
+use Rattle.parameters_reader.specs.{Received, Taken, Refused}
 
 -- parameters of class 2 where the first number is 0, and of class 4 where it is any other
 abbrev pub parametersOf : ℕ → ℕ → ℕ → ℕ → ℕ → ℕ → Parameters

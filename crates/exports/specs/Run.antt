@@ -1,16 +1,9 @@
 -- A batch from its start on, in one call.
 -- Assumes nothing.
-use Prim.Native.Nat.{ℕ}
-use mathlib.Core.Bool.{not}
-use mathlib.Core.List.{List}
-use lib.Dec.{eqb}
-use lib.ListN.{length}
-use Rattle.encoder.specs.declared.nameplate.Nameplate.{Nameplate}
-use Rattle.encoder.specs.declared.parameters.Parameters.{Parameters}
-use Rattle.encoder.specs.Refusal.{wrongBuffer, when, _before_, answer}
-use Rattle.encoder.specs.Plate.{plateRefusal}
-use Rattle.axis.specs.Reading.{startRaw}
-use Rattle.axis_batch.specs.Batch.{batch, batchList}
+use Rattle.integer.specs.Base.{ℕ, not, List, eqb, length}
+use Rattle.encoder.specs.{Nameplate, Parameters, wrongBuffer, when, _before_, answer, plateRefusal}
+use Rattle.axis.specs.{startRaw}
+use Rattle.axis_batch.specs.{batch, batchList}
 
 -- 7 and 13; then those of the start: 3, 4, 5, 6, and 9 of the first raw number; then those of the batch: 9 and 10, entry after entry
 unfoldable pub runRefusal : Nameplate → Parameters → ℕ → List ℕ → List ℕ → ℕ

@@ -4,11 +4,10 @@
 mod run;
 mod take;
 
-ghost use mathlib.Core.Path.{_≡_};
-ghost use Rattle.parameters_reader.specs.Read.{readTelegram, readBlock};
-ghost use Rattle.encoder.specs.Plate.{plainPlate};
-ghost use Rattle.exports.specs.Numbers.{parametersOf, takeRefusal, taken};
-ghost use Rattle.exports.specs.Run.{runRefusal, ran};
+ghost use Rattle.integer.specs.Base.{_≡_};
+ghost use Rattle.encoder.specs.{plainPlate};
+ghost use Rattle.parameters_reader.specs.{readTelegram, readBlock};
+ghost use Rattle.exports.specs.{parametersOf, takeRefusal, taken, runRefusal, ran};
 use encoder::nameplate::Nameplate;
 use encoder::parameters::Parameters;
 use encoder::quantity::Units;

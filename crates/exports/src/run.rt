@@ -1,6 +1,6 @@
 // A batch from its start on.
-ghost use mathlib.Core.Path.{_≡_};
-ghost use Rattle.exports.specs.Run.{runRefusal, ran};
+ghost use Rattle.integer.specs.Base.{_≡_};
+ghost use Rattle.exports.specs.{runRefusal, ran};
 use axis::Axis;
 use axis_batch::batch;
 use encoder::nameplate::Nameplate;

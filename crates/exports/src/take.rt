@@ -1,8 +1,6 @@
 // What a reader has received, as numbers in a lent list.
-ghost use mathlib.Core.Path.{_≡_};
-ghost use mathlib.Core.List.{[], _∷_};
-ghost use lib.ListN.{length};
-ghost use Rattle.exports.specs.Numbers.{numbersOf, Fills, takeRefusal, taken};
+ghost use Rattle.integer.specs.Base.{_≡_, [], _∷_, length};
+ghost use Rattle.exports.specs.{numbersOf, Fills, takeRefusal, taken};
 use encoder::nameplate::Nameplate;
 use encoder::parameters::Parameters;
 use encoder::refusal;

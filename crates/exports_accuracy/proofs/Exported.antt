@@ -2,31 +2,18 @@
 -- batch after it are one list of calls, and the accuracy theorem holds of every list. The answer is the table's, since an axis that was started is
 -- within its limits.
 -- Assumes nothing.
-use mathlib.Core.Path.{_≡_, refl, sym, ap, _∙_}
-use mathlib.Core.Bool.{not}
-use mathlib.Core.List.{List, [], _∷_}
-use Prim.Native.Nat.{ℕ, zero, suc}
-use lib.Dec.{eqb}
-use lib.IntN.{ℤ}
-use lib.ListN.{length}
-use Rattle.encoder.specs.Refusal.{wrongBuffer, when, _before_}
-use Rattle.encoder.specs.Plate.{plateRefusal}
-use Rattle.encoder.proofs.RefusalLaws.{before-none}
-use Rattle.axis_shaft.specs.Rules.{started}
-use Rattle.axis.specs.declared.Axis.{Axis}
-use Rattle.axis.specs.declared.Next.{Next}
-use Rattle.axis.specs.Limits.{rulesOn}
-use Rattle.axis.specs.Reading.{next, fresh, readRaw, startRaw}
-use Rattle.axis.proofs.AxisLaws.{limits-of, limits-none}
-use Rattle.axis.proofs.LimitsKept.{raw-started-kept}
-use Rattle.axis_batch.specs.Batch.{positionsOf, batchRefusal, batch, batchList}
-use Rattle.axis_batch.proofs.BatchLaws.{first-is}
-use Rattle.accuracy.specs.Calls.{firstNumber, Call, batching}
-use Rattle.accuracy.specs.Ledger.{Device, force, Ledger, startBy, opened, refusalBy}
-use Rattle.accuracy.specs.Claim.{Event, Supposed, Entries, Accurate}
-use Rattle.accuracy.proofs.Accuracy.{accuracy}
-use Rattle.exports.specs.Run.{runRefusal, ran}
-use Rattle.exports_accuracy.specs.Exported.{device, encoderBatch, Claim}
+use Rattle.integer.specs.Base.{_≡_, refl, sym, ap, _∙_, not, List, [], _∷_, ℕ, zero, suc, eqb, ℤ, length}
+use Rattle.encoder.specs.{wrongBuffer, when, _before_, plateRefusal}
+use Rattle.encoder.proofs.{before-none}
+use Rattle.axis_shaft.specs.{started}
+use Rattle.axis.specs.{Axis, Next, rulesOn, next, fresh, readRaw, startRaw}
+use Rattle.axis.proofs.{limits-of, limits-none, raw-started-kept}
+use Rattle.axis_batch.specs.{positionsOf, batchRefusal, batch, batchList}
+use Rattle.axis_batch.proofs.{first-is}
+use Rattle.accuracy.specs.{firstNumber, Call, batching, Device, force, Ledger.Ledger, startBy, opened, refusalBy, Event, Supposed, Entries, Accurate}
+use Rattle.accuracy.proofs.{accuracy}
+use Rattle.exports.specs.{runRefusal, ran}
+use Rattle.exports_accuracy.specs.{device, encoderBatch, Claim}
 
 number-of : (a b : Axis) (k : ℕ) → next a k b .refusal ≡ k
 number-of a b zero = refl

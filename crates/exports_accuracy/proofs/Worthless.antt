@@ -1,24 +1,14 @@
 -- Worthless functions break the claim, each on the axis of document 01's listing: first at raw number 28, then at 4 and 10, 6 steps on each time. Exact is
 -- 10.2 and 12, which on the ring of 7 is 3.2 and 5, and no position is within a unit of both. And the table takes this call.
 -- Assumes nothing.
-use mathlib.Core.Path.{_≡_, refl, _∙_}
-use mathlib.Core.List.{[], _∷_}
-use Prim.Native.Nat.{ℕ}
-use native.Mathlib.Omega.{arith}
-use lib.IntN.{ℤ, pos}
-use lib.ListN.{getD}
-use Rattle.integer.specs.Modulus.{_modulo_}
-use Rattle.encoder.specs.Plate.{plateRefusal}
-use Rattle.encoder.specs.Rows.{fieldsRefusal, refusalOn}
-use Rattle.encoder.specs.Force.{rulesOf}
-use Rattle.axis_shaft.specs.Rules.{oriented, difference, moveRefusal}
-use Rattle.axis_shaft.specs.Batch.{refusalIn}
-use Rattle.axis.specs.Reading.{startRawRefusal}
-use Rattle.accuracy.specs.Ledger.{withReadings}
-use Rattle.accuracy.specs.Claim.{Supposed, Entries}
-use Rattle.accuracy.proofs.OneUnit.{told}
-use Rattle.exports_accuracy.specs.Exported.{Arguments, device, encoderBatch, refusal, Claim}
-use Rattle.exports_accuracy.specs.Worthless.{repeats, always0, copiesFirst, refusesAll}
+use Rattle.integer.specs.Base.{_≡_, refl, _∙_, [], _∷_, ℕ, arith, ℤ, pos, getD}
+use Rattle.integer.specs.{_modulo_}
+use Rattle.encoder.specs.{plateRefusal, fieldsRefusal, refusalOn, rulesOf}
+use Rattle.axis_shaft.specs.{oriented, difference, moveRefusal, refusalIn}
+use Rattle.axis.specs.{startRawRefusal}
+use Rattle.accuracy.specs.{withReadings, Supposed, Entries}
+use Rattle.accuracy.proofs.{told}
+use Rattle.exports_accuracy.specs.{Arguments, device, encoderBatch, refusal, Claim, repeats, always0, copiesFirst, refusesAll}
 
 abbrev listing : Arguments
 listing =

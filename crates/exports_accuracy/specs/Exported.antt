@@ -10,20 +10,10 @@
 -- The claim is of any function that C could call so, and sees only its answer and the list that it leaves. Worthless.antt in proofs/
 -- refutes functions that show one position throughout or turn every call away, and Exported.antt proves the claim of ours.
 -- Assumes nothing.
-use mathlib.Core.Path.{_≡_}
-use mathlib.Core.Bool.{not}
-use mathlib.Core.List.{List}
-use Prim.Native.Nat.{ℕ}
-use lib.Dec.{eqb}
-use lib.IntN.{ℤ}
-use lib.ListN.{length}
-use Rattle.encoder.specs.Refusal.{wrongBuffer, when, _before_}
-use Rattle.encoder.specs.Plate.{plateRefusal, plainPlate}
-use Rattle.accuracy.specs.Calls.{firstNumber, batching}
-use Rattle.accuracy.specs.Ledger.{Device, startBy, opened, refusalBy}
-use Rattle.accuracy.specs.Claim.{Supposed, Entries}
-use Rattle.exports.specs.Numbers.{parametersOf}
-use Rattle.exports.specs.Run.{runRefusal, ran}
+use Rattle.integer.specs.Base.{_≡_, not, List, ℕ, eqb, ℤ, length}
+use Rattle.encoder.specs.{wrongBuffer, when, _before_, plateRefusal, plainPlate}
+use Rattle.accuracy.specs.{firstNumber, batching, Device, startBy, opened, refusalBy, Supposed, Entries}
+use Rattle.exports.specs.{parametersOf, runRefusal, ran}
 
 -- what C gives: R, T, the class, the fields of the parameters as sent, the raw numbers, and the lent list
 pub record Arguments : Type 0 where

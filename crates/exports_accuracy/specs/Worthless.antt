@@ -1,7 +1,6 @@
 -- Functions that document 01 would send back ("Programs we would send back"). Each breaks the claim: proofs/Worthless.antt.
 -- Assumes nothing.
-use Prim.Native.Nat.{ℕ}
-use lib.ListN.{length, getD, replicate}
+use Rattle.integer.specs.Base.{ℕ, length, getD, replicate}
 use Rattle.exports_accuracy.specs.Exported.{Arguments, Function, encoderBatch}
 
 -- answers as ours, and shows one position throughout

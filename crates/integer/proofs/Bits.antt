@@ -1,11 +1,7 @@
 -- A flag as a number, 0 or 1, and as one bit of a word.
 -- Assumes nothing.
-use mathlib.Core.Path.{_≡_, refl}
-use mathlib.Core.Bool.{Bool, true, false, cond}
-use Prim.Native.Nat.{ℕ, _*_, _^_, _<_}
-use native.Mathlib.Omega.{arith}
-use mir.Val.{boolByte}
-use Rattle.integer.specs.Bits.{at}
+use Rattle.integer.specs.Base.{_≡_, refl, Bool, true, false, cond, ℕ, _*_, _^_, _<_, arith, boolByte}
+use Rattle.integer.specs.{at}
 
 pub flag : (b : Bool) → boolByte b ≡ cond b 1 0
 flag true = refl

@@ -1,10 +1,7 @@
 -- A clamped number lies between the limits: by the two tests, whichever way they went.
 -- Assumes nothing.
-use mathlib.Core.Path.{_≡_, refl}
-use mathlib.Core.Bool.{Bool, true, false}
-use lib.IntN.{ℤ}
-use lib.Signed.{_≤ℤ_, ltZ}
-use Rattle.integer.specs.Clamp.{clamp}
+use Rattle.integer.specs.Base.{_≡_, refl, Bool, true, false, ℤ, _≤ℤ_, ltZ}
+use Rattle.integer.specs.{clamp}
 use Rattle.integer.proofs.Signed.{signed}
 
 clamp-by : (low high z : ℤ) (b c : Bool) → low ≤ℤ high → ltZ z low ≡ b → ltZ high z ≡ c

@@ -1,13 +1,10 @@
 -- The remainder rounded down: z and z modulo n differ by a multiple of n, and no other number below n does.
 -- Assumes nothing.
-use mathlib.Core.Path.{_≡_, sym, ap, _∙_}
-use Prim.Native.Nat.{ℕ, suc, _+_, _*_, _/_, _%_, _<_}
-use native.Mathlib.Omega.{arith}
-use native.Mathlib.Nat as N
-use lib.IntN.{ℤ, pos, negsuc}
-use lib.Arith.{digits-mod}
-use Rattle.integer.specs.Modulus.{_modulo_}
+use Rattle.integer.specs.Base.{_≡_, sym, ap, _∙_, ℕ, suc, _+_, _*_, _/_, _%_, _<_, arith, ℤ, pos, negsuc}
+use Rattle.integer.specs.{_modulo_}
 use Rattle.integer.proofs.Signed.{above, below}
+use lib.{Arith.digits-mod}
+use native.Mathlib.Nat as N
 
 -- the multiples by which z and z modulo n differ
 pub modulo-has : (z : ℤ) {n : ℕ} → 0 < n → (p : ℕ) × (q : ℕ) × (above z + p * n ≡ (z modulo n + below z) + q * n)

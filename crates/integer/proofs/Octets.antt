@@ -1,17 +1,11 @@
 -- Lists of a known length, and numbers as octets: the laws hold for every number of octets.
 -- Assumes nothing.
-use mathlib.Core.Path.{_≡_, refl, sym, ap, _∙_}
-use mathlib.Core.List.{List, [], _∷_, _++_, append-assoc, append-nil}
-use Prim.Native.Nat.{ℕ, zero, suc, _+_, _*_, _/_, _%_, _^_, _<_, _≤_}
-use native.Mathlib.Omega.{arith}
+use Rattle.integer.specs.Base.{_≡_, refl, sym, ap, _∙_, List, [], _∷_, _++_, append-assoc, append-nil, ℕ, zero, suc, _+_, _*_, _/_, _%_, _^_, _<_, _≤_, arith}
+use Rattle.integer.specs.Base.{add-one, w8, Fits, length, getD, take, drop, length-append, length-take, length-drop, length-take-le, take-at, drop-at}
+use Rattle.integer.specs.Base.{drop-drop, drop-length, putMid, postOf}
+use Rattle.integer.specs.{bigEndian, octets}
+use lib.{Seq.getD-drop}
 use native.Mathlib.Nat as N
-use native.Mathlib.Numerals.{add-one}
-use mir.Syntax.{w8}
-use mir.Val.{Fits}
-use lib.ListN.{length, getD, take, drop, length-append, length-take, length-drop}
-use lib.Seq.{getD-drop, length-take-le, take-at, drop-at, drop-drop, drop-length}
-use borrow.Rule.Slice.PartMut.{putMid, postOf}
-use Rattle.integer.specs.Octets.{bigEndian, octets}
 
 -- a list of a known length, element by element: what is computed of it then computes
 abbrev pub firsts : ℕ → List ℕ → List ℕ

@@ -2,17 +2,11 @@
 -- these, and each order and equation of ℤ is one of naturals. `omega (signed, add-is x y, ..)` so reads and proves statements of ℤ: list the
 -- equation of each compound term.
 -- Assumes nothing.
-use mathlib.Core.Path.{_≡_, refl, sym, ap, subst}
-use mathlib.Core.Bool.{Bool, true, false, not, cond}
-use Prim.Native.Nat.{ℕ, zero, suc, _+_, _*_, _-_, _<_, _≤_, min}
-use native.Mathlib.Omega.{arith}
+use Rattle.integer.specs.Base.{_≡_, refl, sym, ap, Bool, true, false, not, cond, ℕ, zero, suc, _+_, _*_, _-_, _<_, _≤_, min, arith, T, ltb, ℤ, pos, negsuc}
+use Rattle.integer.specs.Base.{negℤ, _+ℤ_, _-ℤ_, _*ℤ_, _≤ℤ_, _<ℤ_, ltZ, Width, SFits, toZ, ofZ, toZ-ofZ}
+use lib.{Dec.ltb→lt, Dec.nltb→le, Dec.lt→ltb, Dec.le→leb, Dec.leb→le, IntN.subℕ, Signed.ltZ-no}
+use mathlib.{Core.Path.subst}
 use native.Mathlib.Nat as N
-use lib.Dec.{T, ltb, ltb→lt, nltb→le, lt→ltb, le→leb, leb→le}
-use lib.IntN.{ℤ, pos, negsuc, negℤ, subℕ, _+ℤ_, _-ℤ_, _*ℤ_}
-use lib.Signed.{_≤ℤ_, _<ℤ_, ltZ, ltZ-no}
-use mir.Syntax.{Width}
-use mir.Val.{SFits, toZ, ofZ}
-use mir.ValLaws.{toZ-ofZ}
 
 -- how far z lies above 0, and how far below
 abbrev pub above : ℤ → ℕ

@@ -1,16 +1,10 @@
 -- How far an integer lies from 0: of sums, products and quotients, and that a number that is near enough fits its type.
 -- Assumes nothing.
-use mathlib.Core.Path.{_≡_, refl, _∙_}
-use Prim.Native.Nat.{ℕ, suc, _+_, _*_, _/_, _<_, _≤_, _^_}
-use native.Mathlib.Omega.{arith}
-use native.Mathlib.Nat as N
-use lib.Dec.{T}
-use lib.IntN.{ℤ, pos, negsuc, negℤ, natAbs, _+ℤ_, _-ℤ_, _*ℤ_}
-use lib.Signed.{nonNeg, quotZ}
-use mir.Syntax.{Width, w64}
-use mir.Val.{Fits, SFits, toZ, ofZ, bits, hbits}
-use mir.ValLaws.{toZ-ofZ, toZ-pos}
+use Rattle.integer.specs.Base.{_≡_, refl, _∙_, ℕ, suc, _+_, _*_, _/_, _<_, _≤_, _^_, arith, T, ℤ, pos, negsuc, negℤ, natAbs, _+ℤ_, _-ℤ_, _*ℤ_, nonNeg, quotZ}
+use Rattle.integer.specs.Base.{Width, w64, Fits, SFits, toZ, ofZ, toZ-ofZ, toZ-pos}
 use Rattle.integer.proofs.Signed.{above, below, apart, neg-is, add-is, diff-is}
+use mir.{Val.bits, Val.hbits}
+use native.Mathlib.Nat as N
 
 pub abs-is : (z : ℤ) → natAbs z ≡ above z + below z
 abs-is (pos n) = omega arith

@@ -1,14 +1,10 @@
 -- A text at the start of a buffer, and one copied behind it, as `bytes::copy` leaves the part of the buffer that is lent from there on: its front is
 -- the text, and the rest is as it was.
 -- Assumes nothing.
-use mathlib.Core.Path.{_≡_, refl, sym, _∙_}
-use mathlib.Core.List.{List, [], _∷_, _++_, append-assoc}
-use Prim.Native.Nat.{ℕ, zero, suc, _≤_}
-use native.Mathlib.Omega.{arith}
-use lib.ListN.{length, take, drop, length-append, take-append-drop}
-use lib.Seq.{take-length, take-at, drop-at, drop-drop, length-take-le}
-use borrow.Rule.Slice.PartMut.{putMid, same-len-mid}
-use Rattle.integer.specs.Text.{over}
+use Rattle.integer.specs.Base.{_≡_, refl, sym, _∙_, List, [], _∷_, _++_, append-assoc, ℕ, zero, suc, _≤_, arith, length, take, drop, length-append}
+use Rattle.integer.specs.Base.{take-length, take-at, drop-at, drop-drop, length-take-le, putMid, same-len-mid}
+use Rattle.integer.specs.{over}
+use lib.{ListN.take-append-drop}
 
 pub over-first : (j t u : List ℕ) → u ≡ take (length j) j ++ drop (length j) t → u ≡ over j t
 over-first j t u u-is = u-is ∙ rw (take-length j)

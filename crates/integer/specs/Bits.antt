@@ -1,8 +1,6 @@
 -- Bits of a word, bit 0 the least significant (document 01, its opening lines).
 -- Assumes nothing.
-use Prim.Native.Nat.{ℕ, _/_, _%_, _^_}
-use mathlib.Core.Bool.{Bool, cond}
-use lib.Dec.{eqb}
+use Rattle.integer.specs.Base.{ℕ, _/_, _%_, _^_, Bool, cond, eqb}
 
 -- bit n of w is 1
 abbrev pub bit : ℕ → ℕ → Bool

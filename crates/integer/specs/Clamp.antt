@@ -1,8 +1,6 @@
 -- A number limited at both ends (document 01: "limited to signed 32 bits").
 -- Assumes nothing.
-use mathlib.Core.Bool.{cond}
-use lib.IntN.{ℤ}
-use lib.Signed.{ltZ}
+use Rattle.integer.specs.Base.{cond, ℤ, ltZ}
 
 -- the number from low to high that is nearest to z
 unfoldable pub clamp : ℤ → ℤ → ℤ → ℤ

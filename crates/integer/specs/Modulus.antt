@@ -1,7 +1,6 @@
 -- The remainder of an integer, rounded down (document 01: "modulo", "towards minus infinity").
 -- Assumes nothing.
-use Prim.Native.Nat.{ℕ, suc, _-_, _%_}
-use lib.IntN.{ℤ, pos, negsuc}
+use Rattle.integer.specs.Base.{ℕ, suc, _-_, _%_, ℤ, pos, negsuc}
 
 -- z modulo n: from 0 to n - 1, for either sign of z
 infixl 70 _modulo_

@@ -1,8 +1,6 @@
 -- Octets are counted from 1, and numbers of several octets have the most significant first (document 01, its opening lines).
 -- Assumes nothing.
-use Prim.Native.Nat.{ℕ, zero, suc, _+_, _-_, _*_, _/_, _%_, _^_}
-use mathlib.Core.List.{List, [], _∷_, _++_}
-use lib.ListN.{length, getD, take, drop}
+use Rattle.integer.specs.Base.{ℕ, zero, suc, _+_, _-_, _*_, _/_, _%_, _^_, List, [], _∷_, _++_, length, getD, take, drop}
 
 -- octet k of a telegram
 abbrev pub octet : ℕ → List ℕ → ℕ

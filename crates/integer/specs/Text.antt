@@ -1,10 +1,8 @@
 -- A quoted text as its octets: in ASCII, the codes of its characters.
 -- Assumes nothing.
-use Prim.Native.Nat.{ℕ}
+use Rattle.integer.specs.Base.{ℕ, List, [], _∷_, _++_, length, drop}
 use Prim.Native.Char.{code}
 use Prim.Native.String.{String, [] as []ˢ, _∷_ as _∷ˢ_}
-use mathlib.Core.List.{List, [], _∷_, _++_}
-use lib.ListN.{length, drop}
 
 abbrev pub ascii : String → List ℕ
 ascii []ˢ = []

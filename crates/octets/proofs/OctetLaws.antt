@@ -1,20 +1,12 @@
 -- What the loops over octets keep, at first, one further and at the end, and what a bit is.
 -- Assumes nothing.
-use mathlib.Core.Path.{_≡_, refl}
-use mathlib.Core.Bool.{false}
-use mathlib.Core.List.{List, [], _++_, append-assoc, append-nil}
-use Prim.Native.Nat.{ℕ, zero, suc, _+_, _-_, _*_, _/_, _%_, _^_, _<_, _≤_}
-use native.Mathlib.Omega.{arith}
+pub use borrow.Author.Needs.{needs}
+use Rattle.integer.specs.Base.{_≡_, refl, false, List, [], _++_, append-assoc, append-nil, ℕ, zero, suc, _+_, _-_, _*_, _/_, _%_, _^_, _<_, _≤_, arith, add-one, w8}
+use Rattle.integer.specs.Base.{Fits, bitAnd, and-mask, length, getD, take, drop, set, take-all, drop-cons, drop-length}
+use Rattle.integer.specs.{bigEndian, octets, bit}
+use Rattle.integer.proofs.{bigEndian-snoc}
+use lib.{Seq.take-suc, Seq.drop-set-lt, Seq.getD-set-same, Seq.lt-length-set}
 use native.Mathlib.Nat as N
-use native.Mathlib.Numerals.{add-one}
-use mir.Syntax.{w8}
-use mir.Val.{Fits}
-use lib.Bits.{bitAnd, and-mask}
-use lib.ListN.{length, getD, take, drop, set}
-use lib.Seq.{take-suc, take-all, drop-cons, drop-length, drop-set-lt, getD-set-same, lt-length-set}
-use Rattle.integer.specs.Octets.{bigEndian, octets}
-use Rattle.integer.specs.Bits.{bit}
-use Rattle.integer.proofs.Octets.{bigEndian-snoc}
 
 -- the number of no octets, of one more, and of all
 pub number-none : 0 ≡ bigEndian [] % 2 ^ 32

@@ -1,9 +1,6 @@
 // Octets and bits: one reader and one writer of numbers, the most significant octet first, and one test of a bit.
-ghost use mathlib.Core.Path.{_≡_};
-ghost use Prim.Native.Nat.{_%_, _^_};
-ghost use lib.ListN.{length};
-ghost use Rattle.integer.specs.Octets.{bigEndian, octets};
-ghost use Rattle.integer.specs.Bits.{bit};
+ghost use Rattle.integer.specs.Base.{_≡_, _%_, _^_, length};
+ghost use Rattle.integer.specs.{bigEndian, octets, bit};
 
 // The number that the octets stand for; of more than four, the last four.
 pub fn number(part: &[u8]) -> u32

@@ -1,24 +1,12 @@
 -- What the readers find in the octets, and the parameters judged by it.
 -- Assumes nothing.
-use mathlib.Core.Path.{_≡_, sym, ap, _∙_}
-use mathlib.Core.Bool.{not}
-use mathlib.Core.List.{List}
-use Prim.Native.Nat.{ℕ, _%_, _^_}
-use native.Mathlib.Omega.{arith}
-use lib.Dec.{eqb}
-use lib.ListN.{length, getD, take, drop}
-use borrow.Author.Tests.{eq-eqb, ne-eqb}
-use Rattle.integer.specs.Octets.{bigEndian}
-use Rattle.integer.proofs.Octets.{known, Octets, bigEndian-part}
-use Rattle.encoder.specs.declared.nameplate.Nameplate.{Nameplate}
-use Rattle.encoder.specs.declared.parameters.Parameters.{Parameters}
-use Rattle.encoder.specs.declared.parameters.Parameters.the-variants.{Class2, Class4}
-use Rattle.encoder.specs.Refusal.{otherIdent, when, _before_}
-use Rattle.encoder.specs.Plate.{plateRefusal}
-use Rattle.encoder.specs.Rows.{parametersRefusal, refusalOn}
-use Rattle.parameters_reader.specs.declared.Received.{Received}
-use Rattle.parameters_reader.specs.Read.{received, identIn, telegramParameters, blockParameters}
-use Rattle.encoder.proofs.RefusalLaws.{stepwise}
+pub use borrow.Author.Needs.{needs}
+use Rattle.integer.specs.Base.{_≡_, sym, ap, _∙_, not, List, ℕ, _%_, _^_, arith, eqb, length, getD, take, drop, eq-eqb, ne-eqb}
+use Rattle.integer.specs.{bigEndian}
+use Rattle.integer.proofs.{known, Octets.Octets, bigEndian-part}
+use Rattle.encoder.specs.{Nameplate, Parameters, Class2, Class4, otherIdent, when, _before_, plateRefusal, parametersRefusal, refusalOn}
+use Rattle.encoder.proofs.{stepwise}
+use Rattle.parameters_reader.specs.{Received, received, identIn, telegramParameters, blockParameters}
 
 module _ (n : Nameplate) (t : List ℕ) (os : Octets t) (u l k : ℕ) (r : Received) (p : Parameters) (v : ℕ) (v-is : v ≡ plateRefusal n) (none : v ≡ 0) (k-is : k ≡ refusalOn n p) where
   judged : (q : Parameters) → p ≡ q → parametersRefusal n q ≡ k

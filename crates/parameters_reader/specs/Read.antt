@@ -1,19 +1,9 @@
 -- The readers of both classes (document 01, "Class 2 telegram", "Class 4 block"; rows 1, 2 and 7 of "When a call is turned away").
 -- Assumes nothing.
-use Prim.Native.Nat.{ℕ}
-use mathlib.Core.Bool.{not}
-use mathlib.Core.List.{List}
-use lib.Dec.{eqb}
-use lib.ListN.{length}
-use Rattle.integer.specs.Octets.{octet, part, bigEndian}
-use Rattle.encoder.specs.declared.nameplate.Nameplate.{Nameplate}
-use Rattle.encoder.specs.declared.parameters.Parameters.{Parameters}
-use Rattle.encoder.specs.declared.parameters.Parameters.the-variants.{Class2, Class4}
-use Rattle.parameters_reader.specs.declared.Received.{Received}
-use Rattle.parameters_reader.specs.declared.Received.the-variants.{Taken, Refused}
-use Rattle.encoder.specs.Refusal.{wrongLength, otherIdent, when, _before_, answer}
-use Rattle.encoder.specs.Plate.{plateRefusal}
-use Rattle.encoder.specs.Rows.{parametersRefusal}
+use Rattle.integer.specs.Base.{ℕ, not, List, eqb, length}
+use Rattle.integer.specs.{octet, part, bigEndian}
+use Rattle.encoder.specs.{Nameplate, Parameters, Class2, Class4, wrongLength, otherIdent, when, _before_, answer, plateRefusal, parametersRefusal}
+use Rattle.parameters_reader.specs.{declared.Received.Received, declared.Received.the-variants.Taken, declared.Received.the-variants.Refused}
 
 -- the answer of a reader: the parameters, or the number of the refusal
 abbrev pub received : ℕ → Parameters → Received

@@ -1,6 +1,6 @@
 // The readers of both classes (document 01, "Class 2 telegram" and "Class 4 block").
-ghost use mathlib.Core.Path.{_≡_};
-ghost use Rattle.parameters_reader.specs.Read.{received, readTelegram, readBlock};
+ghost use Rattle.integer.specs.Base.{_≡_};
+ghost use Rattle.parameters_reader.specs.{received, readTelegram, readBlock};
 use encoder::nameplate::Nameplate;
 use encoder::parameters::Parameters;
 use encoder::quantity::Units;

@@ -1,26 +1,12 @@
 -- Parameters that the writer takes, written into any buffer of their class's length, read back as the same parameters on the same
 -- nameplate: one theorem for both classes. The buffer's length is known, so that its octets compute, and a number stands in its octets.
 -- Assumes nothing.
-use mathlib.Core.Path.{_≡_, refl, ap, _∙_}
-use mathlib.Core.List.{List}
-use Prim.Native.Nat.{ℕ, zero, suc, _^_, _<_}
-use native.Mathlib.Omega.{arith}
-use lib.ListN.{length}
-use borrow.Author.Tests.{eq-eqb}
-use Rattle.integer.specs.Octets.{octets}
-use Rattle.integer.proofs.Octets.{known, bigEndian-octets}
-use Rattle.encoder.specs.declared.quantity.Units.{Units}
-use Rattle.encoder.specs.declared.nameplate.Nameplate.{Nameplate}
-use Rattle.encoder.specs.declared.parameters.Parameters.{Parameters}
-use Rattle.encoder.specs.declared.parameters.Parameters.the-variants.{Class2, Class4}
-use Rattle.encoder.specs.Refusal.{answer}
-use Rattle.encoder.specs.Plate.{plateRefusal}
-use Rattle.encoder.specs.Rows.{parametersRefusal}
-use Rattle.parameters_reader.specs.declared.Received.the-variants.{Taken}
-use Rattle.parameters_reader.specs.Read.{identIn, telegramParameters, telegramRefusal, readTelegram, blockParameters, blockRefusal, readBlock}
-use Rattle.parameters_writer.specs.declared.Written.the-variants.{Done, Refused}
-use Rattle.parameters_writer.specs.Write.{lengthOf, telegramOf, blockOf, octetsOf, writeRefusal, written, writtenOctets}
-use Rattle.parameters_writer.specs.RoundTrip.{readAs, Held}
+use Rattle.integer.specs.Base.{_≡_, refl, ap, _∙_, List, ℕ, zero, suc, _^_, _<_, arith, length, eq-eqb}
+use Rattle.integer.specs.{octets}
+use Rattle.integer.proofs.{known, bigEndian-octets}
+use Rattle.encoder.specs.{Units, Nameplate, Parameters, Class2, Class4, answer, plateRefusal, parametersRefusal}
+use Rattle.parameters_reader.specs.{Taken, identIn, telegramParameters, telegramRefusal, readTelegram, blockParameters, blockRefusal, readBlock}
+use Rattle.parameters_writer.specs.{Done, Refused, lengthOf, telegramOf, blockOf, octetsOf, writeRefusal, written, writtenOctets, readAs, Held}
 use Rattle.parameters_writer.proofs.WriteLaws.{passed}
 
 -- ---- what it says that the writer has taken parameters

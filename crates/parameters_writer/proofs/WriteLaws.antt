@@ -1,23 +1,12 @@
 -- What the writer leaves in the buffer, and what has been tested before.
 -- Assumes nothing.
-use mathlib.Core.Path.{_≡_, sym, _∙_}
-use mathlib.Core.Bool.{not}
-use mathlib.Core.List.{List}
-use Prim.Native.Nat.{ℕ}
-use lib.Dec.{eqb}
-use lib.ListN.{length, take, drop, set}
-use borrow.Rule.Slice.PartMut.{putMid}
-use borrow.Author.Tests.{eqb-true}
-use Rattle.integer.specs.Octets.{octets}
-use Rattle.integer.proofs.Octets.{known}
-use Rattle.encoder.specs.declared.quantity.Units.{Units}
-use Rattle.encoder.specs.declared.nameplate.Nameplate.{Nameplate}
-use Rattle.encoder.specs.declared.parameters.Parameters.{Parameters}
-use Rattle.encoder.specs.Refusal.{wrongBuffer, when, _before_}
-use Rattle.encoder.specs.Plate.{plateRefusal}
-use Rattle.encoder.specs.Rows.{parametersRefusal, refusalOn}
-use Rattle.parameters_writer.specs.Write.{lengthOf, telegramOf, blockOf, writeRefusal}
-use Rattle.encoder.proofs.RefusalLaws.{before-none, before-again, when-none}
+pub use borrow.Author.Needs.{needs}
+use Rattle.integer.specs.Base.{_≡_, sym, _∙_, not, List, ℕ, eqb, length, take, drop, set, putMid, eqb-true}
+use Rattle.integer.specs.{octets}
+use Rattle.integer.proofs.{known}
+use Rattle.encoder.specs.{Units, Nameplate, Parameters, wrongBuffer, when, _before_, plateRefusal, parametersRefusal, refusalOn}
+use Rattle.encoder.proofs.{before-none, before-again, when-none}
+use Rattle.parameters_writer.specs.{lengthOf, telegramOf, blockOf, writeRefusal}
 
 -- three parts and a store fill a telegram
 pub telegram-filled : (t i v w : List ℕ) (ident operating : ℕ) (units range : Units) → length t ≡ 17

@@ -1,13 +1,8 @@
 -- What it is to be read back, for both classes (demand 2: parameters written as octets read back as the same parameters).
 -- Assumes nothing.
-use Prim.Native.Nat.{ℕ, _^_, _<_}
-use mathlib.Core.List.{List}
-use Rattle.encoder.specs.declared.nameplate.Nameplate.{Nameplate}
-use Rattle.encoder.specs.declared.parameters.Parameters.{Parameters}
-use Rattle.encoder.specs.declared.parameters.Parameters.the-variants.{Class2, Class4}
-use Rattle.encoder.specs.Rows.{fieldsOf}
-use Rattle.parameters_reader.specs.declared.Received.{Received}
-use Rattle.parameters_reader.specs.Read.{readTelegram, readBlock}
+use Rattle.integer.specs.Base.{ℕ, _^_, _<_, List}
+use Rattle.encoder.specs.{Nameplate, Parameters, Class2, Class4, fieldsOf}
+use Rattle.parameters_reader.specs.{Received, readTelegram, readBlock}
 
 -- the reader of the parameters' class
 abbrev pub readAs : Parameters → Nameplate → List ℕ → Received

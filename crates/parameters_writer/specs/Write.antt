@@ -1,20 +1,9 @@
 -- The writer of both classes (document 01, "Class 2 telegram", "Class 4 block"; row 13 of "When a call is turned away").
 -- Assumes nothing.
-use Prim.Native.Nat.{ℕ}
-use mathlib.Core.Bool.{not}
-use mathlib.Core.List.{List, [], _∷_, _++_}
-use lib.Dec.{eqb}
-use lib.ListN.{length}
-use Rattle.integer.specs.Octets.{part, octets}
-use Rattle.encoder.specs.declared.nameplate.Nameplate.{Nameplate}
-use Rattle.encoder.specs.declared.quantity.Units.{Units}
-use Rattle.encoder.specs.declared.parameters.Parameters.{Parameters}
-use Rattle.encoder.specs.declared.parameters.Parameters.the-variants.{Class2, Class4}
-use Rattle.parameters_writer.specs.declared.Written.{Written}
-use Rattle.parameters_writer.specs.declared.Written.the-variants.{Done, Refused}
-use Rattle.encoder.specs.Refusal.{wrongBuffer, when, _before_, answer}
-use Rattle.encoder.specs.Plate.{plateRefusal}
-use Rattle.encoder.specs.Rows.{parametersRefusal}
+use Rattle.integer.specs.Base.{ℕ, not, List, [], _∷_, _++_, eqb, length}
+use Rattle.integer.specs.{part, octets}
+use Rattle.encoder.specs.{Nameplate, Units, Parameters, Class2, Class4, wrongBuffer, when, _before_, answer, plateRefusal, parametersRefusal}
+use Rattle.parameters_writer.specs.{declared.Written.Written, declared.Written.the-variants.Done, declared.Written.the-variants.Refused}
 
 -- the length of the parameters' class
 abbrev pub lengthOf : Parameters → ℕ

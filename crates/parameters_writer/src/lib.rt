@@ -1,7 +1,6 @@
 // The writer of both classes (document 01, "Class 4 block").
-ghost use mathlib.Core.Path.{_≡_};
-ghost use lib.ListN.{length};
-ghost use Rattle.parameters_writer.specs.Write.{lengthOf, telegramOf, blockOf, octetsOf, writeRefusal, written, writtenOctets};
+ghost use Rattle.integer.specs.Base.{_≡_, length};
+ghost use Rattle.parameters_writer.specs.{lengthOf, telegramOf, blockOf, octetsOf, writeRefusal, written, writtenOctets};
 use encoder::nameplate::Nameplate;
 use encoder::parameters::Parameters;
 use encoder::quantity::Units;

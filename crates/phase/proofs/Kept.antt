@@ -2,16 +2,12 @@
 -- and g alike keeps it, a start makes it 0, and a preset the new position. Whatever the three are, the position is near p + g × M / R, since what it is
 -- off by is one remainder below R less another.
 -- Assumes nothing.
-use mathlib.Core.Path.{_≡_, ap}
-use Prim.Native.Nat.{ℕ, _+_, _*_, _/_, _%_, _<_}
-use native.Mathlib.Omega.{arith}
+use Rattle.integer.specs.Base.{_≡_, ap, ℕ, _+_, _*_, _/_, _%_, _<_, arith, digits-div, ℤ, pos, _+ℤ_, _-ℤ_, _*ℤ_}
+use Rattle.integer.specs.{_modulo_}
+use Rattle.integer.proofs.{above, below, signed, neg-is, add-is, diff-is, mul-is, modulo-has, modulo-is, modulo-alike}
+use Rattle.phase.specs.{stepped, origin, off, Near}
+use lib.{Arith.digits-lt}
 use native.Mathlib.Nat as N
-use lib.Arith.{digits-lt, digits-div}
-use lib.IntN.{ℤ, pos, _+ℤ_, _-ℤ_, _*ℤ_}
-use Rattle.integer.specs.Modulus.{_modulo_}
-use Rattle.integer.proofs.Signed.{above, below, signed, neg-is, add-is, diff-is, mul-is}
-use Rattle.integer.proofs.Modulus.{modulo-has, modulo-is, modulo-alike}
-use Rattle.phase.specs.Phase.{stepped, origin, off, Near}
 
 -- what a position is off by, in natural numbers
 pub off-is : (R M L n : ℕ) (b g w : ℤ)

@@ -1,15 +1,11 @@
 -- The phase of an axis that keeps its place: place × M around R × L. Its units are rule 4's, and start and move of the place are those of the phase.
 -- Assumes nothing.
-use mathlib.Core.Path.{_≡_, ap}
-use Prim.Native.Nat.{ℕ, _+_, _*_, _/_, _%_, _<_}
-use native.Mathlib.Omega.{arith}
+use Rattle.integer.specs.Base.{_≡_, ap, ℕ, _+_, _*_, _/_, _%_, _<_, arith, digits-div, ℤ, pos, _+ℤ_, _*ℤ_}
+use Rattle.integer.specs.{_modulo_}
+use Rattle.integer.proofs.{add-is, mul-is, modulo-has, modulo-alike}
+use Rattle.phase.specs.{stepped}
+use lib.{Arith.mod-mul}
 use native.Mathlib.Nat as N
-use lib.Arith.{mod-mul, digits-div}
-use lib.IntN.{ℤ, pos, _+ℤ_, _*ℤ_}
-use Rattle.integer.specs.Modulus.{_modulo_}
-use Rattle.integer.proofs.Signed.{add-is, mul-is}
-use Rattle.integer.proofs.Modulus.{modulo-has, modulo-alike}
-use Rattle.phase.specs.Phase.{stepped}
 
 module _ (R M L : ℕ) (h : 0 < R) (l : 0 < L) where
   pub place-units : (place : ℕ) → place * M % (R * L) / R ≡ place * M / R % L

@@ -1,1 +1,2 @@
 pub mod RingLaws
+pub use RingLaws.{end-fits, on-none, on-ring}

@@ -1,22 +1,13 @@
 -- Each way out of the functions on a ring: a number and the place that it is counted to differ by a multiple of n.
 -- Assumes nothing.
-use mathlib.Core.Path.{_≡_, refl, sym, _∙_}
-use mathlib.Core.Bool.{Bool, true, false, cond, _&&_, and-true, true≢false}
-use Prim.Native.Nat.{ℕ, zero, suc, _+_, _-_, _*_, _/_, _%_, _≤_, _<_, _^_}
-use native.Mathlib.Omega.{arith}
+pub use borrow.Author.Needs.{needs}
+use Rattle.integer.specs.Base.{_≡_, refl, sym, _∙_, Bool, true, false, cond, _&&_, and-true, true≢false, ℕ, zero, suc, _+_, _-_, _*_, _/_, _%_, _≤_, _<_, _^_, arith}
+use Rattle.integer.specs.Base.{T, ltb, ℤ, pos, negsuc, natAbs, _+ℤ_, _-ℤ_, +ℤ-idl, ltZ, nonNeg, lt-ltb, le-ltb, ltb-true, ltb-false, ne-eqb, eq-eqb, w64, w32, Fits}
+use Rattle.integer.specs.Base.{SFits, toZ, ofZ, toZ-pos}
+use Rattle.integer.specs.{_modulo_}
+use Rattle.integer.proofs.{signed, above, below, apart, add-is, diff-is, abs-is, abs-diff, reads, fits-abs, to-nat, modulo-is, modulo-alike}
+use Rattle.ring.specs.{onRing, inRange}
 use native.Mathlib.Nat as N
-use lib.Dec.{T, ltb}
-use lib.IntN.{ℤ, pos, negsuc, natAbs, _+ℤ_, _-ℤ_, +ℤ-idl}
-use lib.Signed.{ltZ, nonNeg}
-use borrow.Author.Tests.{lt-ltb, le-ltb, ltb-true, ltb-false, ne-eqb, eq-eqb}
-use mir.Syntax.{w64, w32}
-use mir.Val.{Fits, SFits, toZ, ofZ}
-use mir.ValLaws.{toZ-pos}
-use Rattle.integer.specs.Modulus.{_modulo_}
-use Rattle.integer.proofs.Signed.{signed, above, below, apart, add-is, diff-is}
-use Rattle.integer.proofs.Size.{abs-is, abs-diff, reads, fits-abs, to-nat}
-use Rattle.integer.proofs.Modulus.{modulo-is, modulo-alike}
-use Rattle.ring.specs.Ring.{onRing, inRange}
 
 pub on-ring : (z : ℤ) (n : ℕ) → 0 < n → onRing z n ≡ z modulo n
 unfolding onRing

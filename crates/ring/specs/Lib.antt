@@ -1,1 +1,2 @@
 pub mod Ring
+unfoldable pub use Ring.{inRange, onRing}

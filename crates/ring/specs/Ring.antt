@@ -1,10 +1,7 @@
 -- A ring of n places, and numbers within it (document 01: "modulo L", "modulo C", "modulo R × L"; "strictly between −L and L").
 -- Assumes nothing.
-use Prim.Native.Nat.{ℕ}
-use mathlib.Core.Bool.{Bool, cond}
-use lib.Dec.{eqb, ltb}
-use lib.IntN.{ℤ, natAbs}
-use Rattle.integer.specs.Modulus.{_modulo_}
+use Rattle.integer.specs.Base.{ℕ, Bool, cond, eqb, ltb, ℤ, natAbs}
+use Rattle.integer.specs.{_modulo_}
 
 -- z counted around a ring of n places; a ring of none has only 0
 unfoldable pub onRing : ℤ → ℕ → ℕ

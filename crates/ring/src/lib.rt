@@ -1,10 +1,6 @@
 // Arithmetic on a ring of n places, 0 to n - 1, on which a signed number counts around.
-ghost use mathlib.Core.Path.{_≡_};
-ghost use mathlib.Core.Bool.{cond};
-ghost use Prim.Native.Nat.{_-_, _<_, _≤_, _%_};
-ghost use lib.IntN.{pos, natAbs, _+ℤ_};
-ghost use lib.Signed.{ltZ};
-ghost use Rattle.ring.specs.Ring.{onRing, inRange};
+ghost use Rattle.integer.specs.Base.{_≡_, cond, _-_, _<_, _≤_, _%_, pos, natAbs, _+ℤ_, ltZ};
+ghost use Rattle.ring.specs.{onRing, inRange};
 
 // The place that lies d further on than a place, or back where d is below 0.
 pub fn add(place: u64, d: i64, n: u64) -> u64

@@ -1,1 +1,2 @@
 pub mod ReadingLaws
+pub use ReadingLaws.{reading-lt, reading-refused, reading-taken}

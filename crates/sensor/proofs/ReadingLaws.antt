@@ -1,21 +1,11 @@
 -- What holds of a reading that is not refused: its raw number is below C and fits 32 bits; and the answer taken apart.
 -- Assumes nothing.
-use mathlib.Core.Path.{_≡_, refl, sym, _∙_}
-use Prim.Native.Nat.{ℕ, zero, suc, _+_, _*_, _≤_, _<_, _^_}
-use native.Mathlib.Omega.{arith}
+pub use borrow.Author.Needs.{needs}
+use Rattle.integer.specs.Base.{_≡_, refl, sym, _∙_, ℕ, zero, suc, _+_, _*_, _≤_, _<_, _^_, arith, leb, leb-false, w64, w32, Fits}
+use Rattle.encoder.specs.{Nameplate, wrongStep, when, answer, plateRefusal, capacityOf}
+use Rattle.encoder.proofs.{before-none, when-not, capacity-most}
+use Rattle.sensor.specs.{Reading, Number, Refused, rawOf, stepRefusal, numbered}
 use native.Mathlib.Nat as N
-use lib.Dec.{leb}
-use borrow.Author.Tests.{leb-false}
-use mir.Syntax.{w64, w32}
-use mir.Val.{Fits}
-use Rattle.encoder.specs.declared.nameplate.Nameplate.{Nameplate}
-use Rattle.sensor.specs.declared.Reading.{Reading}
-use Rattle.sensor.specs.declared.Reading.the-variants.{Number, Refused}
-use Rattle.encoder.specs.Refusal.{wrongStep, when, answer}
-use Rattle.encoder.specs.Plate.{plateRefusal, capacityOf}
-use Rattle.sensor.specs.Raw.{rawOf, stepRefusal, numbered}
-use Rattle.encoder.proofs.RefusalLaws.{before-none, when-not}
-use Rattle.encoder.proofs.PlateLaws.{capacity-most}
 
 module _ (n : Nameplate) (s t : ℕ) where
   within : stepRefusal n s t ≡ 0 → (plateRefusal n ≡ 0) × (s < n .steps .0) × (t < n .turns .0)

@@ -1,12 +1,8 @@
 -- A reading and its raw number (document 01, "Plate and reading"; rows 8 and 9 of "When a call is turned away").
 -- Assumes nothing.
-use Prim.Native.Nat.{ℕ, _+_, _*_}
-use lib.Dec.{leb}
-use Rattle.encoder.specs.declared.nameplate.Nameplate.{Nameplate}
-use Rattle.sensor.specs.declared.Reading.{Reading}
-use Rattle.sensor.specs.declared.Reading.the-variants.{Number, Refused}
-use Rattle.encoder.specs.Refusal.{wrongStep, wrongTurn, when, _before_, answer}
-use Rattle.encoder.specs.Plate.{plateRefusal}
+use Rattle.integer.specs.Base.{ℕ, _+_, _*_, leb}
+use Rattle.encoder.specs.{Nameplate, wrongStep, wrongTurn, when, _before_, answer, plateRefusal}
+use Rattle.sensor.specs.{declared.Reading.Reading, declared.Reading.the-variants.Number, declared.Reading.the-variants.Refused}
 
 -- the raw number t × R + s
 abbrev pub rawOf : Nameplate → ℕ → ℕ → ℕ

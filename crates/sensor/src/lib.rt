@@ -1,6 +1,6 @@
 // A reading of the sensor and its raw number (document 01, "Plate and reading").
-ghost use mathlib.Core.Path.{_≡_};
-ghost use Rattle.sensor.specs.Raw.{stepRefusal, numbered};
+ghost use Rattle.integer.specs.Base.{_≡_};
+ghost use Rattle.sensor.specs.{stepRefusal, numbered};
 use encoder::nameplate::Nameplate;
 use encoder::quantity::Steps;
 use encoder::quantity::Turns;

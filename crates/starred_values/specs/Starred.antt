@@ -1,29 +1,11 @@
 -- The starred bench values (document 01, "Bench values"): beside each value of the paper what the definitions give, in one list.
 -- Assumes nothing.
-use Prim.Native.Nat.{ℕ, _/_, _%_}
-use mathlib.Core.Bool.{false}
-use mathlib.Core.List.{List, [], _∷_, _++_}
-use lib.ListN.{replicate}
-use lib.IntN.{ℤ, pos, negsuc}
-use Rattle.encoder.specs.declared.nameplate.Nameplate.{Nameplate}
-use Rattle.encoder.specs.declared.parameters.Parameters.{Parameters}
-use Rattle.encoder.specs.declared.parameters.Parameters.the-variants.{Class2, Class4}
-use Rattle.encoder.specs.declared.effect.Effect.{Effect}
-use Rattle.encoder.specs.declared.effect.Effect.the-variants.{Taken as Effective, Refused as NotInForce}
-use Rattle.encoder.specs.Plate.{plainPlate}
-use Rattle.encoder.specs.Force.{inForce}
-use Rattle.parameters_reader.specs.declared.Received.{Received}
-use Rattle.parameters_reader.specs.declared.Received.the-variants.{Taken, Refused}
-use Rattle.parameters_reader.specs.Read.{readTelegram}
-use Rattle.axis_shaft.specs.declared.Reported.{Reported}
-use Rattle.axis_shaft.specs.declared.Reported.the-variants.{At, Refused as NotReported}
-use Rattle.axis.specs.declared.Axis.{Axis}
-use Rattle.axis.specs.Limits.{reported}
-use Rattle.axis.specs.Reading.{start, readRaw}
-use Rattle.axis.specs.Preset.{preset}
-use Rattle.axis_velocity.specs.declared.Speed.{Speed}
-use Rattle.axis_velocity.specs.declared.Speed.the-variants.{At as SpeedAt, Refused as NoSpeed}
-use Rattle.axis_velocity.specs.Velocity.{velocityAt}
+use Rattle.integer.specs.Base.{ℕ, _/_, _%_, false, List, [], _∷_, _++_, replicate, ℤ, pos, negsuc}
+use Rattle.encoder.specs.{Nameplate, Parameters, Class2, Class4, Effect, Taken as Effective, Refused as NotInForce, plainPlate, inForce}
+use Rattle.parameters_reader.specs.{Received, Taken, Refused, readTelegram}
+use Rattle.axis_shaft.specs.{Reported, At, declared.Reported.the-variants.Refused as NotReported}
+use Rattle.axis.specs.{Axis, reported, start, readRaw, preset}
+use Rattle.axis_velocity.specs.{Speed, At as SpeedAt, Refused as NoSpeed, velocityAt}
 
 pub record Starred : Type 0 where
   pub computed : List ℤ

@@ -1,10 +1,8 @@
 -- A digit of base 10 or 16 behind 56 bits fits 64 bits.
 -- Assumes nothing.
-use Prim.Native.Nat.{ℕ, _+_, _*_, _%_, _^_, _≤_, _<_}
-use native.Mathlib.Omega.{arith}
+pub use borrow.Author.Needs.{needs}
+use Rattle.integer.specs.Base.{ℕ, _+_, _*_, _%_, _^_, _≤_, _<_, arith, w64, Fits}
 use native.Mathlib.Nat.{mul-le-mul}
-use mir.Syntax.{w64}
-use mir.Val.{Fits}
 
 module _ (v b : ℕ) (h : b ≤ 16) where
   shifted : v % 2 ^ 56 * b ≤ 72057594037927935 * 16

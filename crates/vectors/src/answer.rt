@@ -1,6 +1,8 @@
 // Answers in words: what is in force, the octets of a buffer, or the number of the refusal.
 use axis::Axis;
 use axis::Next;
+use axis_shaft::Reported;
+use axis_velocity::Speed;
 use cyclic::Cycled;
 use diagnosis::Diagnosed;
 use encoder::effect::Effect;
@@ -9,10 +11,8 @@ use encoder::effect::in_force;
 use encoder::nameplate::Nameplate;
 use libc::STDOUT_FILENO;
 use parameters_reader::Received;
-use ring::magnitude;
-use axis_shaft::Reported;
-use axis_velocity::Speed;
 use parameters_writer::Written;
+use ring::magnitude;
 
 // A reader's answer, with what the parameters put in force on the nameplate.
 pub(crate) fn received(plate: Nameplate, answer: Received) {

@@ -5,8 +5,8 @@ use crate::parse::decimal;
 use crate::vector::octets;
 use axis::Axis;
 use cyclic::cycle;
-use diagnosis::diagnosis;
 use cyclic_link::Link;
+use diagnosis::diagnosis;
 
 pub struct Bench {
     pub axis: Axis,

@@ -1,6 +1,6 @@
 // Calls on an axis, a line for each: a word of eight columns, and the numbers that the call takes, decimal but for the octet of the
 // parameters. `axis  2` and `axis  4` bring a nameplate and parameters, and `given` the numbers of a record.
-ghost use Rattle.io.specs.Counts.{Counts};
+ghost use Rattle.io.{specs.Counts.Counts};
 use crate::answer;
 use crate::lent::lent;
 use crate::parse::decimal;
@@ -13,13 +13,13 @@ use crate::vector::octets;
 use crate::vector::parameters;
 use axis::Axis;
 use axis::Next;
+use axis_shaft::Shaft;
+use axis_velocity::velocity;
 use encoder::nameplate::Nameplate;
 use encoder::parameters::Parameters;
 use encoder::quantity::Steps;
 use encoder::quantity::Turns;
 use encoder::quantity::Units;
-use axis_shaft::Shaft;
-use axis_velocity::velocity;
 
 // Makes the call, and yields the axis that it leaves. `number` is a reading by its raw number, `preset` an absolute and `change` a relative
 // preset, `hold` sets the held preset value.

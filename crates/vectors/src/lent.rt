@@ -1,11 +1,11 @@
 // A reading through a record that is lent, and moved where it lies.
-ghost use mathlib.Core.Path.{_≡_};
-ghost use Rattle.axis.specs.Reading.{read};
+ghost use Rattle.integer.specs.Base.{_≡_};
+ghost use Rattle.axis.specs.{read};
 use axis::Axis;
 use axis::Next;
+use axis_in_place::read_in_place;
 use encoder::quantity::Steps;
 use encoder::quantity::Turns;
-use axis_in_place::read_in_place;
 
 pub(crate) fn lent(axis: Axis, step: Steps, turn: Turns) -> Next
     ensures { λ r. ⌜ r ≡ read axis (step .0) (turn .0) ⌝ }

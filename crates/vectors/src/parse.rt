@@ -1,5 +1,5 @@
 // Numbers of a line, one after the other.
-ghost use Prim.Native.Nat.{_≤_};
+ghost use Rattle.integer.specs.Base.{_≤_};
 
 pub struct Parsed {
     pub value: u32,

@@ -1,9 +1,9 @@
 // Whether two answers of a call agree: the number of the refusal, and each field of the axis that is left.
 use axis::Axis;
 use axis::Next;
+use axis_shaft::Shaft;
 use encoder::nameplate::Nameplate;
 use encoder::parameters::Parameters;
-use axis_shaft::Shaft;
 
 pub(crate) fn same(a: Next, b: Next) -> bool {
     let axis_a = a.axis;

@@ -1,6 +1,6 @@
 // One vector a line: a word of eight columns for what is called, R, T and the ident number of the nameplate, and what it is called on.
 // Octets and the ident number are hexadecimal, other numbers decimal.
-ghost use Rattle.io.specs.Counts.{Counts};
+ghost use Rattle.io.{specs.Counts.Counts};
 use crate::answer;
 use crate::bench;
 use crate::bench::Bench;

@@ -1,13 +1,11 @@
 -- The tests are those of the definition.
--- Assumes nothing.
-use mathlib.Core.Path.{refl}
-use Rattle.encoder.specs.Force.{rulesFit}
-use Rattle.axis_shaft.proofs.sound.Statement.{statement}
-use Rattle.axis_shaft.proofs.sound.Tie as tie
+use Rattle.integer.specs.Base.{refl}
+use Rattle.encoder.specs.{rulesFit}
+use Rattle.axis_shaft.proofs.{sound.Statement.statement, sound.Tie.close, sound.Tie.spec, sound.Tie.Need-returns}
 
-returns : tie.Need-returns
+returns : Need-returns
 unfolding rulesFit
 returns c = refl
 
 pub sound-spec : {M : Type 1} → statement M
-sound-spec = tie.close (tie.spec returns)
+sound-spec = close (spec returns)

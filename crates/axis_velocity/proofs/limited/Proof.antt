@@ -1,15 +1,4 @@
--- By the laws of VelocityLaws, one for each way out.
--- Assumes nothing.
-use borrow.Author.Needs.{needs}
-use Rattle.axis_velocity.proofs.VelocityLaws.{limits}
-use Rattle.axis_velocity.proofs.limited.Statement.{statement}
-use Rattle.axis_velocity.proofs.limited.Tie as tie
+use Rattle.axis_velocity.proofs.{VelocityLaws.limits, VelocityLaws.needs, limited.Statement.statement, limited.Tie.close, limited.Tie.spec}
 
 pub limited-spec : {M : Type 1} → statement M
-limited-spec =
-    tie.close
-    (tie.spec
-    (λ c. search (needs, limits))
-    (λ c. search (needs, limits))
-    (λ c. search (needs, limits))
-    (λ c. search (needs, limits)))
+limited-spec = close (spec (λ c. search (needs, limits)) (λ c. search (needs, limits)) (λ c. search (needs, limits)) (λ c. search (needs, limits)))

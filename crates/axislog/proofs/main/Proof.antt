@@ -1,23 +1,7 @@
--- By the laws of InputLaws, one for each way out.
--- Assumes nothing.
-use borrow.Author.Needs.{needs}
-use Rattle.axislog.proofs.InputLaws.{inputs}
-use Rattle.axislog.proofs.main.Statement.{statement}
-use Rattle.axislog.proofs.main.Tie as tie
+use Rattle.axislog.proofs.{InputLaws.inputs, InputLaws.needs, main.Statement.statement, main.Tie.close, main.Tie.spec}
 
 pub main-spec : {M : Type 1} → statement M
-main-spec =
-    tie.close
-    (tie.spec
-    (λ c κs. search (needs, inputs))
-    (λ c. search (needs, inputs))
-    (λ c κs. search (needs, inputs))
-    (λ c. search (needs, inputs))
-    (λ c. search (needs, inputs))
-    (λ c. search (needs, inputs))
-    (λ c κs. search (needs, inputs))
-    (λ c. search (needs, inputs))
-    (λ c. search (needs, inputs))
-    (λ c κs. search (needs, inputs))
-    (λ c. search (needs, inputs))
-    (λ c. search (needs, inputs)))
+main-spec = close (spec
+    (λ c κs. search (needs, inputs)) (λ c. search (needs, inputs)) (λ c κs. search (needs, inputs)) (λ c. search (needs, inputs))
+    (λ c. search (needs, inputs)) (λ c. search (needs, inputs)) (λ c κs. search (needs, inputs)) (λ c. search (needs, inputs))
+    (λ c. search (needs, inputs)) (λ c κs. search (needs, inputs)) (λ c. search (needs, inputs)) (λ c. search (needs, inputs)))

@@ -1,23 +1,7 @@
--- By the laws of FormLaws, one for each way out.
--- Assumes nothing.
-use borrow.Author.Needs.{needs}
-use Rattle.axislog_forms.proofs.FormLaws.{forms}
-use Rattle.axislog_forms.proofs.axis.Statement.{statement}
-use Rattle.axislog_forms.proofs.axis.Tie as tie
+use Rattle.axislog_forms.proofs.{FormLaws.forms, FormLaws.needs, axis.Statement.statement, axis.Tie.close, axis.Tie.spec}
 
 pub axis-spec : {M : Type 1} → statement M
-axis-spec =
-    tie.close
-    (tie.spec
-    (λ c. search (needs, forms))
-    (λ c κs. search (needs, forms))
-    (λ c. search (needs, forms))
-    (λ c. search (needs, forms))
-    (λ c κs. search (needs, forms))
-    (λ c. search (needs, forms))
-    (λ c κs. search (needs, forms))
-    (λ c. search (needs, forms))
-    (λ c. search (needs, forms))
-    (λ c. search (needs, forms))
-    (λ c. search (needs, forms))
-    (λ c. search (needs, forms)))
+axis-spec = close (spec
+    (λ c. search (needs, forms)) (λ c κs. search (needs, forms)) (λ c. search (needs, forms)) (λ c. search (needs, forms))
+    (λ c κs. search (needs, forms)) (λ c. search (needs, forms)) (λ c κs. search (needs, forms)) (λ c. search (needs, forms))
+    (λ c. search (needs, forms)) (λ c. search (needs, forms)) (λ c. search (needs, forms)) (λ c. search (needs, forms)))

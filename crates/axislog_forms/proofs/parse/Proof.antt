@@ -1,25 +1,8 @@
--- By the laws of FormLaws, one for each way out.
--- Assumes nothing.
-use borrow.Author.Needs.{needs}
-use Rattle.axislog_forms.proofs.FormLaws.{forms}
-use Rattle.axislog_forms.proofs.parse.Statement.{statement}
-use Rattle.axislog_forms.proofs.parse.Tie as tie
+use Rattle.axislog_forms.proofs.{FormLaws.forms, FormLaws.needs, parse.Statement.statement, parse.Tie.close, parse.Tie.spec}
 
 pub parse-spec : {M : Type 1} → statement M
-parse-spec =
-    tie.close
-    (tie.spec
-    (λ c. search (needs, forms))
-    (λ c κs. search (needs, forms))
-    (λ c. search (needs, forms))
-    (λ c κs. search (needs, forms))
-    (λ c. search (needs, forms))
-    (λ c. search (needs, forms))
-    (λ c κs. search (needs, forms))
-    (λ c. search (needs, forms))
-    (λ c κs. search (needs, forms))
-    (λ c. search (needs, forms))
-    (λ c κs. search (needs, forms))
-    (λ c. search (needs, forms))
-    (λ c. search (needs, forms))
-    (λ c. search (needs, forms)))
+parse-spec = close (spec
+    (λ c. search (needs, forms)) (λ c κs. search (needs, forms)) (λ c. search (needs, forms)) (λ c κs. search (needs, forms))
+    (λ c. search (needs, forms)) (λ c. search (needs, forms)) (λ c κs. search (needs, forms)) (λ c. search (needs, forms))
+    (λ c κs. search (needs, forms)) (λ c. search (needs, forms)) (λ c κs. search (needs, forms)) (λ c. search (needs, forms))
+    (λ c. search (needs, forms)) (λ c. search (needs, forms)))

@@ -1,31 +1,9 @@
--- By the laws of FormLaws, one for each way out.
--- Assumes nothing.
-use borrow.Author.Needs.{needs}
-use Rattle.axislog_forms.proofs.FormLaws.{forms}
-use Rattle.axislog_forms.proofs.preset.Statement.{statement}
-use Rattle.axislog_forms.proofs.preset.Tie as tie
+use Rattle.axislog_forms.proofs.{FormLaws.forms, FormLaws.needs, preset.Statement.statement, preset.Tie.close, preset.Tie.spec}
 
 pub preset-spec : {M : Type 1} → statement M
-preset-spec =
-    tie.close
-    (tie.spec
-    (λ c. search (needs, forms))
-    (λ c κs. search (needs, forms))
-    (λ c. search (needs, forms))
-    (λ c. search (needs, forms))
-    (λ c κs. search (needs, forms))
-    (λ c. search (needs, forms))
-    (λ c. search (needs, forms))
-    (λ c. search (needs, forms))
-    (λ c. search (needs, forms))
-    (λ c. search (needs, forms))
-    (λ c. search (needs, forms))
-    (λ c. search (needs, forms))
-    (λ c κs. search (needs, forms))
-    (λ c. search (needs, forms))
-    (λ c. search (needs, forms))
-    (λ c. search (needs, forms))
-    (λ c. search (needs, forms))
-    (λ c. search (needs, forms))
-    (λ c. search (needs, forms))
-    (λ c. search (needs, forms)))
+preset-spec = close (spec
+    (λ c. search (needs, forms)) (λ c κs. search (needs, forms)) (λ c. search (needs, forms)) (λ c. search (needs, forms))
+    (λ c κs. search (needs, forms)) (λ c. search (needs, forms)) (λ c. search (needs, forms)) (λ c. search (needs, forms))
+    (λ c. search (needs, forms)) (λ c. search (needs, forms)) (λ c. search (needs, forms)) (λ c. search (needs, forms))
+    (λ c κs. search (needs, forms)) (λ c. search (needs, forms)) (λ c. search (needs, forms)) (λ c. search (needs, forms))
+    (λ c. search (needs, forms)) (λ c. search (needs, forms)) (λ c. search (needs, forms)) (λ c. search (needs, forms)))

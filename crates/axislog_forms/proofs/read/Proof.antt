@@ -1,17 +1,6 @@
--- By the laws of FormLaws, one for each way out.
--- Assumes nothing.
-use borrow.Author.Needs.{needs}
-use Rattle.axislog_forms.proofs.FormLaws.{forms}
-use Rattle.axislog_forms.proofs.read.Statement.{statement}
-use Rattle.axislog_forms.proofs.read.Tie as tie
+use Rattle.axislog_forms.proofs.{FormLaws.forms, FormLaws.needs, read.Statement.statement, read.Tie.close, read.Tie.spec}
 
 pub read-spec : {M : Type 1} → statement M
-read-spec =
-    tie.close
-    (tie.spec
-    (λ c. search (needs, forms))
-    (λ c κs. search (needs, forms))
-    (λ c. search (needs, forms))
-    (λ c. search (needs, forms))
-    (λ c. search (needs, forms))
-    (λ c. search (needs, forms)))
+read-spec = close (spec
+    (λ c. search (needs, forms)) (λ c κs. search (needs, forms)) (λ c. search (needs, forms)) (λ c. search (needs, forms))
+    (λ c. search (needs, forms)) (λ c. search (needs, forms)))

@@ -1,30 +1,9 @@
--- By the laws of FormLaws, one for each way out.
--- Assumes nothing.
-use borrow.Author.Needs.{needs}
-use Rattle.axislog_forms.proofs.FormLaws.{forms}
-use Rattle.axislog_forms.proofs.scale.Statement.{statement}
-use Rattle.axislog_forms.proofs.scale.Tie as tie
+use Rattle.axislog_forms.proofs.{FormLaws.forms, FormLaws.needs, scale.Statement.statement, scale.Tie.close, scale.Tie.spec}
 
 pub scale-spec : {M : Type 1} → statement M
-scale-spec =
-    tie.close
-    (tie.spec
-    (λ c. search (needs, forms))
-    (λ c κs. search (needs, forms))
-    (λ c. search (needs, forms))
-    (λ c. search (needs, forms))
-    (λ c κs. search (needs, forms))
-    (λ c. search (needs, forms))
-    (λ c. search (needs, forms))
-    (λ c κs. search (needs, forms))
-    (λ c. search (needs, forms))
-    (λ c. search (needs, forms))
-    (λ c κs. search (needs, forms))
-    (λ c. search (needs, forms))
-    (λ c. search (needs, forms))
-    (λ c. search (needs, forms))
-    (λ c. search (needs, forms))
-    (λ c. search (needs, forms))
-    (λ c. search (needs, forms))
-    (λ c. search (needs, forms))
-    (λ c. search (needs, forms)))
+scale-spec = close (spec
+    (λ c. search (needs, forms)) (λ c κs. search (needs, forms)) (λ c. search (needs, forms)) (λ c. search (needs, forms))
+    (λ c κs. search (needs, forms)) (λ c. search (needs, forms)) (λ c. search (needs, forms)) (λ c κs. search (needs, forms))
+    (λ c. search (needs, forms)) (λ c. search (needs, forms)) (λ c κs. search (needs, forms)) (λ c. search (needs, forms))
+    (λ c. search (needs, forms)) (λ c. search (needs, forms)) (λ c. search (needs, forms)) (λ c. search (needs, forms)) (λ c. search (needs, forms))
+    (λ c. search (needs, forms)) (λ c. search (needs, forms)))

@@ -1,29 +1,9 @@
--- By the laws of FormLaws, one for each way out.
--- Assumes nothing.
-use borrow.Author.Needs.{needs}
-use Rattle.axislog_forms.proofs.FormLaws.{forms}
-use Rattle.axislog_forms.proofs.sequence.Statement.{statement}
-use Rattle.axislog_forms.proofs.sequence.Tie as tie
+use Rattle.axislog_forms.proofs.{FormLaws.forms, FormLaws.needs, sequence.Statement.statement, sequence.Tie.close, sequence.Tie.spec}
 
 pub sequence-spec : {M : Type 1} → statement M
-sequence-spec =
-    tie.close
-    (tie.spec
-    (λ c. search (needs, forms))
-    (λ c κs. search (needs, forms))
-    (λ c. search (needs, forms))
-    (λ c. search (needs, forms))
-    (λ c κs. search (needs, forms))
-    (λ c. search (needs, forms))
-    (λ c κs. search (needs, forms))
-    (λ c. search (needs, forms))
-    (λ c. search (needs, forms))
-    (λ c κs. search (needs, forms))
-    (λ c. search (needs, forms))
-    (λ c κs. search (needs, forms))
-    (λ c. search (needs, forms))
-    (λ c. search (needs, forms))
-    (λ c. search (needs, forms))
-    (λ c. search (needs, forms))
-    (λ c. search (needs, forms))
+sequence-spec = close (spec
+    (λ c. search (needs, forms)) (λ c κs. search (needs, forms)) (λ c. search (needs, forms)) (λ c. search (needs, forms))
+    (λ c κs. search (needs, forms)) (λ c. search (needs, forms)) (λ c κs. search (needs, forms)) (λ c. search (needs, forms))
+    (λ c. search (needs, forms)) (λ c κs. search (needs, forms)) (λ c. search (needs, forms)) (λ c κs. search (needs, forms))
+    (λ c. search (needs, forms)) (λ c. search (needs, forms)) (λ c. search (needs, forms)) (λ c. search (needs, forms)) (λ c. search (needs, forms))
     (λ c. search (needs, forms)))

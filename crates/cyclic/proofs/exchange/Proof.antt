@@ -1,11 +1,9 @@
 -- By what the calls ensure, one after the other: the raw number, the word, what the cycle makes of it, the preset and the input.
--- Assumes nothing.
-use borrow.Author.Needs.{needs}
-use Rattle.cyclic.proofs.CycleLaws.{preset-possible, left-fields, left-standing, done-answer, done-input}
+use Rattle.cyclic.proofs.CycleLaws.{preset-possible, left-fields, left-standing, done-answer, done-input, needs}
 use Rattle.cyclic.proofs.exchange.Statement.{statement}
-use Rattle.cyclic.proofs.exchange.Tie as tie
+use Rattle.cyclic.proofs.exchange.Tie.{close, spec, Need-preset-requires, Need-fill-requires, Need-returns}
 
-preset-requires : tie.Need-preset-requires
+preset-requires : Need-preset-requires
 preset-requires c κs =
     let e = c .before .before in
     let g = e .before .before in
@@ -13,7 +11,7 @@ preset-requires c κs =
     let p = h .before .before .before .pre in
     (h .take .ensures .1, preset-possible _ _ (p .0) _ _ _ _ (p .1) _ (h .take .ensures .0) _ (g .word-of .ensures) _ (e .react .ensures))
 
-fill-requires : tie.Need-fill-requires
+fill-requires : Need-fill-requires
 fill-requires c κs =
     let d = c .before in
     let e = d .before .before .before in
@@ -25,7 +23,7 @@ fill-requires c κs =
       p .3,
     )
 
-returns : tie.Need-returns
+returns : Need-returns
 returns c =
     let f = c .before .before .before in
     let d = f .before .before in
@@ -38,13 +36,5 @@ returns c =
     )
 
 pub exchange-spec : {M : Type 1} → statement M
-exchange-spec =
-    tie.close
-    (tie.spec
-    (λ c κs. search needs)
-    (λ c κs. search needs)
-    (λ c κs. search needs)
-    preset-requires
-    fill-requires
-    (λ c. search needs)
-    returns)
+exchange-spec = close (spec
+    (λ c κs. search needs) (λ c κs. search needs) (λ c κs. search needs) preset-requires fill-requires (λ c. search needs) returns)

@@ -1,15 +1,10 @@
 -- All parts, or the first alone.
--- Assumes nothing.
-use borrow.Author.Needs.{needs}
-use Rattle.diagnosis.specs.Diagnosis.{report}
-use Rattle.diagnosis.proofs.fill.Statement.{statement}
-use Rattle.diagnosis.proofs.fill.Tie as tie
+use Rattle.diagnosis.specs.{report}
+use Rattle.diagnosis.proofs.{PartLaws.needs, fill.Statement.statement, fill.Tie.close, fill.Tie.spec}
 
 pub fill-spec : {M : Type 1} → statement M
 unfolding report
-fill-spec =
-    tie.close
-    (tie.spec
+fill-spec = close (spec
     (λ c κs. let p = c .before .before .before .pre in (p .0, c .before .if1 .taken, rw (c .before .if1 .taken) at (p .1)))
     (λ c κs. let p = c .before .before .before .pre in (p .0, rw (c .before .if1 .left) at (p .1))) (λ c. search needs) (λ c. search needs)
     (λ c. search needs)

@@ -1,16 +1,6 @@
 -- By the laws of RunLaws, of the plate and the parameters that the numbers stand for.
--- Assumes nothing.
-use borrow.Author.Needs.{needs}
-use Rattle.exports.proofs.RunLaws.{naming}
-use Rattle.exports.proofs.encoder_batch.Statement.{statement}
-use Rattle.exports.proofs.encoder_batch.Tie as tie
+use Rattle.exports.proofs.{RunLaws.naming, NumbersLaws.needs, encoder_batch.Statement.statement, encoder_batch.Tie.close, encoder_batch.Tie.spec}
 
 pub encoder-batch-spec : {M : Type 1} → statement M
-encoder-batch-spec =
-    tie.close
-    (tie.spec
-    (λ c κs. search needs)
-    (λ c κs. search needs)
-    (λ c κs. search needs)
-    (λ c. search needs)
-    (λ c. search (needs, naming)))
+encoder-batch-spec = close (spec
+    (λ c κs. search needs) (λ c κs. search needs) (λ c κs. search needs) (λ c. search needs) (λ c. search (needs, naming)))

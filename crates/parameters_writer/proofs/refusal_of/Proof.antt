@@ -1,13 +1,7 @@
 -- By the calls, in the order of the definition.
--- Assumes nothing.
-use borrow.Author.Needs.{needs}
-use Rattle.parameters_writer.proofs.WriteLaws.{write-number}
-use Rattle.parameters_writer.proofs.refusal_of.Statement.{statement}
-use Rattle.parameters_writer.proofs.refusal_of.Tie as tie
+use Rattle.parameters_writer.proofs.{WriteLaws.write-number, WriteLaws.needs, refusal_of.Statement.statement, refusal_of.Tie.close, refusal_of.Tie.spec}
 
 pub refusal-of-spec : {M : Type 1} → statement M
-refusal-of-spec =
-    tie.close
-    (tie.spec
+refusal-of-spec = close (spec
     (λ c κs. search needs) (λ c κs. search needs) (λ c κs. search needs) (λ c κs. search needs) (λ c κs. search needs) (λ c κs. search needs)
     (λ c. let calls = c .before .before in rw (c .first2 .ensures, c .before .first .ensures, calls .refusal2 .ensures, calls .before .refusal .ensures, calls .before .before .when .ensures, calls .before .before .before .len .ensures) (write-number _ _ _)))

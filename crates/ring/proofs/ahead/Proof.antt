@@ -1,15 +1,4 @@
--- By the laws of RingLaws, one for each way out.
--- Assumes nothing.
-use borrow.Author.Needs.{needs}
-use Rattle.ring.proofs.RingLaws.{rings}
-use Rattle.ring.proofs.ahead.Statement.{statement}
-use Rattle.ring.proofs.ahead.Tie as tie
+use Rattle.ring.proofs.{RingLaws.rings, RingLaws.needs, ahead.Statement.statement, ahead.Tie.close, ahead.Tie.spec}
 
 pub ahead-spec : {M : Type 1} → statement M
-ahead-spec =
-    tie.close
-    (tie.spec
-    (λ c. search needs)
-    (λ c. search needs)
-    (λ c. search (needs, rings))
-    (λ c. search (needs, rings)))
+ahead-spec = close (spec (λ c. search needs) (λ c. search needs) (λ c. search (needs, rings)) (λ c. search (needs, rings)))

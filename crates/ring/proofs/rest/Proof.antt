@@ -1,14 +1,4 @@
--- By the laws of RingLaws, one for each way out.
--- Assumes nothing.
-use borrow.Author.Needs.{needs}
-use Rattle.ring.proofs.RingLaws.{rings}
-use Rattle.ring.proofs.rest.Statement.{statement}
-use Rattle.ring.proofs.rest.Tie as tie
+use Rattle.ring.proofs.{RingLaws.rings, RingLaws.needs, rest.Statement.statement, rest.Tie.close, rest.Tie.spec}
 
 pub rest-spec : {M : Type 1} → statement M
-rest-spec =
-    tie.close
-    (tie.spec
-    (λ c. search needs)
-    (λ c. search (needs, rings))
-    (λ c. search (needs, rings)))
+rest-spec = close (spec (λ c. search needs) (λ c. search (needs, rings)) (λ c. search (needs, rings)))

@@ -1,16 +1,10 @@
 -- By the number of the refusal.
--- Assumes nothing.
-use borrow.Author.Needs.{needs}
-use Rattle.encoder.proofs.RefusalLaws.{exits}
-use Rattle.sensor.specs.Raw.{numbered}
-use Rattle.sensor.proofs.ReadingLaws.{fitting}
-use Rattle.sensor.proofs.raw_number.Statement.{statement}
-use Rattle.sensor.proofs.raw_number.Tie as tie
+use Rattle.encoder.proofs.{exits}
+use Rattle.sensor.specs.{numbered}
+use Rattle.sensor.proofs.{ReadingLaws.fitting, ReadingLaws.needs, raw_number.Statement.statement, raw_number.Tie.close, raw_number.Tie.spec}
 
 pub raw-number-spec : {M : Type 1} → statement M
 unfolding numbered
-raw-number-spec =
-    tie.close
-    (tie.spec
+raw-number-spec = close (spec
     (λ c κs. search needs) (λ c. search (needs, exits)) (λ c. search needs) (λ c. search (needs, fitting)) (λ c. search (needs, fitting))
     (λ c. search (needs, fitting)) (λ c. search (needs, exits)))

@@ -1,17 +1,5 @@
--- By the laws of ReadingLaws, one for each way out.
--- Assumes nothing.
-use borrow.Author.Needs.{needs}
-use Rattle.axis.proofs.ReadingLaws.{begins}
-use Rattle.axis.proofs.Axis.begun.Statement.{statement}
-use Rattle.axis.proofs.Axis.begun.Tie as tie
+use Rattle.axis.proofs.{ReadingLaws.begins, ReadingLaws.needs, Axis.begun.Statement.statement, Axis.begun.Tie.close, Axis.begun.Tie.spec}
 
 pub begun-spec : {M : Type 1} → statement M
-begun-spec =
-    tie.close
-    (tie.spec
-    (λ c. search needs)
-    (λ c κs. search needs)
-    (λ c. search needs)
-    (λ c κs. search needs)
-    (λ c. search (needs, begins))
-    (λ c. search (needs, begins)))
+begun-spec = close (spec
+    (λ c. search needs) (λ c κs. search needs) (λ c. search needs) (λ c κs. search needs) (λ c. search (needs, begins)) (λ c. search (needs, begins)))

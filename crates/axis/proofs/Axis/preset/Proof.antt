@@ -1,20 +1,8 @@
--- By the laws of PresetLaws, one for each way out.
--- Assumes nothing.
-use Rattle.axis.specs.Preset.{preset, presetRefusal}
-use borrow.Author.Needs.{needs}
-use Rattle.axis.specs.Preset.{preset, presetRefusal}
-use Rattle.axis.proofs.PresetLaws.{presets}
-use Rattle.axis.proofs.Axis.preset.Statement.{statement}
-use Rattle.axis.proofs.Axis.preset.Tie as tie
+use Rattle.axis.specs.{preset, presetRefusal}
+use Rattle.axis.proofs.{PresetLaws.presets, ReadingLaws.needs, Axis.preset.Statement.statement, Axis.preset.Tie.close, Axis.preset.Tie.spec}
 
 pub preset-spec : {M : Type 1} → statement M
 unfolding preset presetRefusal
-preset-spec =
-    tie.close
-    (tie.spec
-    (λ c κs. search needs)
-    (λ c. search needs)
-    (λ c κs. search (needs, presets))
-    (λ c. search needs)
-    (λ c. search (needs, presets))
+preset-spec = close (spec
+    (λ c κs. search needs) (λ c. search needs) (λ c κs. search (needs, presets)) (λ c. search needs) (λ c. search (needs, presets))
     (λ c. search (needs, presets)))

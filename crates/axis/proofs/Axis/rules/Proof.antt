@@ -1,21 +1,6 @@
--- By the laws of AxisLaws, one for each way out.
--- Assumes nothing.
-use borrow.Author.Needs.{needs}
-use Rattle.axis.proofs.AxisLaws.{rulings}
-use Rattle.axis.proofs.Axis.rules.Statement.{statement}
-use Rattle.axis.proofs.Axis.rules.Tie as tie
+use Rattle.axis.proofs.{AxisLaws.rulings, ReadingLaws.needs, Axis.rules.Statement.statement, Axis.rules.Tie.close, Axis.rules.Tie.spec}
 
 pub rules-spec : {M : Type 1} → statement M
-rules-spec =
-    tie.close
-    (tie.spec
-    (λ c κs. search needs)
-    (λ c. search needs)
-    (λ c κs. search needs)
-    (λ c κs. search needs)
-    (λ c κs. search needs)
-    (λ c κs. search needs)
-    (λ c. search (needs, rulings))
-    (λ c. search needs)
-    (λ c. search (needs, rulings))
-    (λ c. search (needs, rulings)))
+rules-spec = close (spec
+    (λ c κs. search needs) (λ c. search needs) (λ c κs. search needs) (λ c κs. search needs) (λ c κs. search needs) (λ c κs. search needs)
+    (λ c. search (needs, rulings)) (λ c. search needs) (λ c. search (needs, rulings)) (λ c. search (needs, rulings)))

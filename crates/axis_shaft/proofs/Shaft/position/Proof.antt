@@ -1,17 +1,6 @@
 -- By the laws of PlaceLaws.
--- Assumes nothing.
-use borrow.Author.Needs.{needs}
-use Rattle.axis_shaft.proofs.PlaceLaws.{places}
-use Rattle.axis_shaft.proofs.Shaft.position.Statement.{statement}
-use Rattle.axis_shaft.proofs.Shaft.position.Tie as tie
+use Rattle.axis_shaft.proofs.{PlaceLaws.places, SensorLaws.needs, Shaft.position.Statement.statement, Shaft.position.Tie.close, Shaft.position.Tie.spec}
 
 pub position-spec : {M : Type 1} → statement M
-position-spec =
-    tie.close
-    (tie.spec
-    (λ c κs. search needs)
-    (λ c. search needs)
-    (λ c. search needs)
-    (λ c κs. search needs)
-    (λ c. search (needs, places))
-    (λ c. search (needs, places)))
+position-spec = close (spec
+    (λ c κs. search needs) (λ c. search needs) (λ c. search needs) (λ c κs. search needs) (λ c. search (needs, places)) (λ c. search (needs, places)))

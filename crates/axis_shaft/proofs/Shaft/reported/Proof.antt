@@ -1,16 +1,6 @@
--- By the laws of TravelLaws, one for each way out.
--- Assumes nothing.
-use borrow.Author.Needs.{needs}
-use Rattle.axis_shaft.proofs.ShaftLaws.{readings}
-use Rattle.axis_shaft.proofs.Shaft.reported.Statement.{statement}
-use Rattle.axis_shaft.proofs.Shaft.reported.Tie as tie
+use Rattle.axis_shaft.proofs.{ShaftLaws.readings, SensorLaws.needs, Shaft.reported.Statement.statement, Shaft.reported.Tie.close, Shaft.reported.Tie.spec}
 
 pub reported-spec : {M : Type 1} → statement M
-reported-spec =
-    tie.close
-    (tie.spec
-    (λ c κs. search needs)
-    (λ c. search (needs, readings))
-    (λ c κs. search (needs, readings))
-    (λ c κs. search (needs, readings))
+reported-spec = close (spec
+    (λ c κs. search needs) (λ c. search (needs, readings)) (λ c κs. search (needs, readings)) (λ c κs. search (needs, readings))
     (λ c. search (needs, readings)))

@@ -1,14 +1,5 @@
 -- By the laws of PlaceLaws.
--- Assumes nothing.
-use borrow.Author.Needs.{needs}
-use Rattle.axis_shaft.proofs.PlaceLaws.{places}
-use Rattle.axis_shaft.proofs.place.period.Statement.{statement}
-use Rattle.axis_shaft.proofs.place.period.Tie as tie
+use Rattle.axis_shaft.proofs.{PlaceLaws.places, SensorLaws.needs, place.period.Statement.statement, place.period.Tie.close, place.period.Tie.spec}
 
 pub period-spec : {M : Type 1} → statement M
-period-spec =
-    tie.close
-    (tie.spec
-    (λ c. search needs)
-    (λ c. search (needs, places))
-    (λ c. search (needs, places)))
+period-spec = close (spec (λ c. search needs) (λ c. search (needs, places)) (λ c. search (needs, places)))

@@ -1,15 +1,4 @@
--- By the laws of SensorLaws, one for each way out.
--- Assumes nothing.
-use borrow.Author.Needs.{needs}
-use Rattle.axis_shaft.proofs.SensorLaws.{orients}
-use Rattle.axis_shaft.proofs.raw.apart.Statement.{statement}
-use Rattle.axis_shaft.proofs.raw.apart.Tie as tie
+use Rattle.axis_shaft.proofs.{SensorLaws.orients, SensorLaws.needs, raw.apart.Statement.statement, raw.apart.Tie.close, raw.apart.Tie.spec}
 
 pub apart-spec : {M : Type 1} → statement M
-apart-spec =
-    tie.close
-    (tie.spec
-    (λ c. search (needs, orients))
-    (λ c. search needs)
-    (λ c. search needs)
-    (λ c. search (needs, orients)))
+apart-spec = close (spec (λ c. search (needs, orients)) (λ c. search needs) (λ c. search needs) (λ c. search (needs, orients)))

@@ -1,17 +1,6 @@
--- By the laws of SensorLaws, one for each way out.
--- Assumes nothing.
-use borrow.Author.Needs.{needs}
-use Rattle.axis_shaft.proofs.SensorLaws.{approaches}
-use Rattle.axis_shaft.proofs.raw.approach.Statement.{statement}
-use Rattle.axis_shaft.proofs.raw.approach.Tie as tie
+use Rattle.axis_shaft.proofs.{SensorLaws.approaches, SensorLaws.needs, raw.approach.Statement.statement, raw.approach.Tie.close, raw.approach.Tie.spec}
 
 pub approach-spec : {M : Type 1} → statement M
-approach-spec =
-    tie.close
-    (tie.spec
-    (λ c. search (needs, approaches))
-    (λ c κs. search needs)
-    (λ c κs. search needs)
-    (λ c. search (needs, approaches))
-    (λ c κs. search needs)
+approach-spec = close (spec
+    (λ c. search (needs, approaches)) (λ c κs. search needs) (λ c κs. search needs) (λ c. search (needs, approaches)) (λ c κs. search needs)
     (λ c. search (needs, approaches)))

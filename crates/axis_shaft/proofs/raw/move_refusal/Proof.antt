@@ -1,15 +1,5 @@
--- By the laws of SensorLaws, one for each way out.
--- Assumes nothing.
-use borrow.Author.Needs.{needs}
-use Rattle.axis_shaft.proofs.SensorLaws.{approaches}
-use Rattle.axis_shaft.proofs.raw.move_refusal.Statement.{statement}
-use Rattle.axis_shaft.proofs.raw.move_refusal.Tie as tie
+use Rattle.axis_shaft.proofs.{SensorLaws.approaches, SensorLaws.needs, raw.move_refusal.Statement.statement, raw.move_refusal.Tie.close}
+use Rattle.axis_shaft.proofs.{raw.move_refusal.Tie.spec}
 
 pub move-refusal-spec : {M : Type 1} → statement M
-move-refusal-spec =
-    tie.close
-    (tie.spec
-    (λ c. search (needs, approaches))
-    (λ c κs. search needs)
-    (λ c κs. search needs)
-    (λ c. search (needs, approaches)))
+move-refusal-spec = close (spec (λ c. search (needs, approaches)) (λ c κs. search needs) (λ c κs. search needs) (λ c. search (needs, approaches)))

@@ -1,14 +1,4 @@
--- By the laws of SensorLaws, one for each way out.
--- Assumes nothing.
-use borrow.Author.Needs.{needs}
-use Rattle.axis_shaft.proofs.SensorLaws.{ways}
-use Rattle.axis_shaft.proofs.raw.move_to.Statement.{statement}
-use Rattle.axis_shaft.proofs.raw.move_to.Tie as tie
+use Rattle.axis_shaft.proofs.{SensorLaws.ways, SensorLaws.needs, raw.move_to.Statement.statement, raw.move_to.Tie.close, raw.move_to.Tie.spec}
 
 pub move-to-spec : {M : Type 1} → statement M
-move-to-spec =
-    tie.close
-    (tie.spec
-    (λ c κs. search needs)
-    (λ c κs. search needs)
-    (λ c. search (needs, ways)))
+move-to-spec = close (spec (λ c κs. search needs) (λ c κs. search needs) (λ c. search (needs, ways)))

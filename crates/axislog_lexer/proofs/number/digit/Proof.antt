@@ -1,15 +1,4 @@
--- By the laws of NumberLaws, one for each way out.
--- Assumes nothing.
-use borrow.Author.Needs.{needs}
-use Rattle.axislog_lexer.proofs.NumberLaws.{numbers}
-use Rattle.axislog_lexer.proofs.number.digit.Statement.{statement}
-use Rattle.axislog_lexer.proofs.number.digit.Tie as tie
+use Rattle.axislog_lexer.proofs.{NumberLaws.numbers, NumberLaws.needs, number.digit.Statement.statement, number.digit.Tie.close, number.digit.Tie.spec}
 
 pub digit-spec : {M : Type 1} → statement M
-digit-spec =
-    tie.close
-    (tie.spec
-    (λ c. search (needs, numbers))
-    (λ c. search (needs, numbers))
-    (λ c. search (needs, numbers))
-    (λ c. search (needs, numbers)))
+digit-spec = close (spec (λ c. search (needs, numbers)) (λ c. search (needs, numbers)) (λ c. search (needs, numbers)) (λ c. search (needs, numbers)))

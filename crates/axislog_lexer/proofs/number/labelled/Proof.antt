@@ -1,17 +1,7 @@
--- By the laws of NumberLaws, one for each way out.
--- Assumes nothing.
-use borrow.Author.Needs.{needs}
-use Rattle.axislog_lexer.proofs.NumberLaws.{numbers}
-use Rattle.axislog_lexer.proofs.number.labelled.Statement.{statement}
-use Rattle.axislog_lexer.proofs.number.labelled.Tie as tie
+use Rattle.axislog_lexer.proofs.{NumberLaws.numbers, NumberLaws.needs, number.labelled.Statement.statement, number.labelled.Tie.close}
+use Rattle.axislog_lexer.proofs.{number.labelled.Tie.spec}
 
 pub labelled-spec : {M : Type 1} → statement M
-labelled-spec =
-    tie.close
-    (tie.spec
-    (λ c κs. search (needs, numbers))
-    (λ c. search (needs, numbers))
-    (λ c κs. search (needs, numbers))
-    (λ c. search (needs, numbers))
-    (λ c. search (needs, numbers))
-    (λ c. search (needs, numbers)))
+labelled-spec = close (spec
+    (λ c κs. search (needs, numbers)) (λ c. search (needs, numbers)) (λ c κs. search (needs, numbers)) (λ c. search (needs, numbers))
+    (λ c. search (needs, numbers)) (λ c. search (needs, numbers)))

@@ -1,18 +1,6 @@
--- By the laws of NumberLaws, one for each way out.
--- Assumes nothing.
-use borrow.Author.Needs.{needs}
-use Rattle.axislog_lexer.proofs.NumberLaws.{numbers}
-use Rattle.axislog_lexer.proofs.number.last.Statement.{statement}
-use Rattle.axislog_lexer.proofs.number.last.Tie as tie
+use Rattle.axislog_lexer.proofs.{NumberLaws.numbers, NumberLaws.needs, number.last.Statement.statement, number.last.Tie.close, number.last.Tie.spec}
 
 pub last-spec : {M : Type 1} → statement M
-last-spec =
-    tie.close
-    (tie.spec
-    (λ c κs. search (needs, numbers))
-    (λ c. search (needs, numbers))
-    (λ c κs. search (needs, numbers))
-    (λ c. search (needs, numbers))
-    (λ c. search (needs, numbers))
-    (λ c. search (needs, numbers))
-    (λ c. search (needs, numbers)))
+last-spec = close (spec
+    (λ c κs. search (needs, numbers)) (λ c. search (needs, numbers)) (λ c κs. search (needs, numbers)) (λ c. search (needs, numbers))
+    (λ c. search (needs, numbers)) (λ c. search (needs, numbers)) (λ c. search (needs, numbers)))

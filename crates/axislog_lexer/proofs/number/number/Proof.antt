@@ -1,18 +1,6 @@
--- By the laws of NumberLaws, one for each way out.
--- Assumes nothing.
-use borrow.Author.Needs.{needs}
-use Rattle.axislog_lexer.proofs.NumberLaws.{numbers}
-use Rattle.axislog_lexer.proofs.number.number.Statement.{statement}
-use Rattle.axislog_lexer.proofs.number.number.Tie as tie
+use Rattle.axislog_lexer.proofs.{NumberLaws.numbers, NumberLaws.needs, number.number.Statement.statement, number.number.Tie.close, number.number.Tie.spec}
 
 pub number-spec : {M : Type 1} → statement M
-number-spec =
-    tie.close
-    (tie.spec
-    (λ c. search (needs, numbers))
-    (λ c. search (needs, numbers))
-    (λ c κs. search (needs, numbers))
-    (λ c. search (needs, numbers))
-    (λ c. search (needs, numbers))
-    (λ c κs. search (needs, numbers))
-    (λ c. search (needs, numbers)))
+number-spec = close (spec
+    (λ c. search (needs, numbers)) (λ c. search (needs, numbers)) (λ c κs. search (needs, numbers)) (λ c. search (needs, numbers))
+    (λ c. search (needs, numbers)) (λ c κs. search (needs, numbers)) (λ c. search (needs, numbers)))

@@ -1,16 +1,6 @@
--- By the laws of WordLaws, one for each way out.
--- Assumes nothing.
-use borrow.Author.Needs.{needs}
-use Rattle.axislog_lexer.proofs.WordLaws.{words}
-use Rattle.axislog_lexer.proofs.word.ends.Statement.{statement}
-use Rattle.axislog_lexer.proofs.word.ends.Tie as tie
+use Rattle.axislog_lexer.proofs.{WordLaws.words, NumberLaws.needs, word.ends.Statement.statement, word.ends.Tie.close, word.ends.Tie.spec}
 
 pub ends-spec : {M : Type 1} → statement M
-ends-spec =
-    tie.close
-    (tie.spec
-    (λ c κs. search (needs, words))
-    (λ c. search (needs, words))
-    (λ c. search (needs, words))
-    (λ c. search (needs, words))
+ends-spec = close (spec
+    (λ c κs. search (needs, words)) (λ c. search (needs, words)) (λ c. search (needs, words)) (λ c. search (needs, words))
     (λ c. search (needs, words)))

@@ -1,21 +1,7 @@
--- By the laws of StateLaws, one for each way out.
--- Assumes nothing.
-use borrow.Author.Needs.{needs}
-use Rattle.axislog_state.proofs.StateLaws.{replies}
-use Rattle.axislog_state.proofs.State.preset.Statement.{statement}
-use Rattle.axislog_state.proofs.State.preset.Tie as tie
+use Rattle.axislog_state.proofs.{StateLaws.replies, StateLaws.needs, State.preset.Statement.statement, State.preset.Tie.close, State.preset.Tie.spec}
 
 pub preset-spec : {M : Type 1} → statement M
-preset-spec =
-    tie.close
-    (tie.spec
-    (λ c. search (needs, replies))
-    (λ c κs. search (needs, replies))
-    (λ c. search (needs, replies))
-    (λ c κs. search (needs, replies))
-    (λ c. search (needs, replies))
-    (λ c κs. search (needs, replies))
-    (λ c κs. search (needs, replies))
-    (λ c. search (needs, replies))
-    (λ c. search (needs, replies))
-    (λ c. search (needs, replies)))
+preset-spec = close (spec
+    (λ c. search (needs, replies)) (λ c κs. search (needs, replies)) (λ c. search (needs, replies)) (λ c κs. search (needs, replies))
+    (λ c. search (needs, replies)) (λ c κs. search (needs, replies)) (λ c κs. search (needs, replies)) (λ c. search (needs, replies))
+    (λ c. search (needs, replies)) (λ c. search (needs, replies)))

@@ -1,22 +1,7 @@
--- By the laws of StateLaws, one for each way out.
--- Assumes nothing.
-use borrow.Author.Needs.{needs}
-use Rattle.axislog_state.proofs.StateLaws.{replies}
-use Rattle.axislog_state.proofs.State.read.Statement.{statement}
-use Rattle.axislog_state.proofs.State.read.Tie as tie
+use Rattle.axislog_state.proofs.{StateLaws.replies, StateLaws.needs, State.read.Statement.statement, State.read.Tie.close, State.read.Tie.spec}
 
 pub read-spec : {M : Type 1} → statement M
-read-spec =
-    tie.close
-    (tie.spec
-    (λ c. search (needs, replies))
-    (λ c κs. search (needs, replies))
-    (λ c. search (needs, replies))
-    (λ c κs. search (needs, replies))
-    (λ c κs. search (needs, replies))
-    (λ c. search (needs, replies))
-    (λ c κs. search (needs, replies))
-    (λ c κs. search (needs, replies))
-    (λ c. search (needs, replies))
-    (λ c. search (needs, replies))
-    (λ c. search (needs, replies)))
+read-spec = close (spec
+    (λ c. search (needs, replies)) (λ c κs. search (needs, replies)) (λ c. search (needs, replies)) (λ c κs. search (needs, replies))
+    (λ c κs. search (needs, replies)) (λ c. search (needs, replies)) (λ c κs. search (needs, replies)) (λ c κs. search (needs, replies))
+    (λ c. search (needs, replies)) (λ c. search (needs, replies)) (λ c. search (needs, replies)))

@@ -1,14 +1,4 @@
--- By the laws of StateLaws, one for each way out.
--- Assumes nothing.
-use borrow.Author.Needs.{needs}
-use Rattle.axislog_state.proofs.StateLaws.{replies}
-use Rattle.axislog_state.proofs.State.unstarted.Statement.{statement}
-use Rattle.axislog_state.proofs.State.unstarted.Tie as tie
+use Rattle.axislog_state.proofs.{StateLaws.replies, StateLaws.needs, State.unstarted.Statement.statement, State.unstarted.Tie.close, State.unstarted.Tie.spec}
 
 pub unstarted-spec : {M : Type 1} → statement M
-unstarted-spec =
-    tie.close
-    (tie.spec
-    (λ c κs. search (needs, replies))
-    (λ c κs. search (needs, replies))
-    (λ c. search (needs, replies)))
+unstarted-spec = close (spec (λ c κs. search (needs, replies)) (λ c κs. search (needs, replies)) (λ c. search (needs, replies)))

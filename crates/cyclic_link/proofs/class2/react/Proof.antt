@@ -1,15 +1,5 @@
 -- By the law of Class2Laws.
--- Assumes nothing.
-use borrow.Author.Needs.{needs}
-use Rattle.cyclic_link.proofs.Class2Laws.{reaction-is}
-use Rattle.cyclic_link.proofs.class2.react.Statement.{statement}
-use Rattle.cyclic_link.proofs.class2.react.Tie as tie
+use Rattle.cyclic_link.proofs.{Class2Laws.reaction-is, Class2Laws.needs, class2.react.Statement.statement, class2.react.Tie.close, class2.react.Tie.spec}
 
 pub react-spec : {M : Type 1} → statement M
-react-spec =
-    tie.close
-    (tie.spec
-    (λ c κs. search needs)
-    (λ c κs. search needs)
-    (λ c. search needs)
-    (λ c. search (needs, reaction-is)))
+react-spec = close (spec (λ c κs. search needs) (λ c κs. search needs) (λ c. search needs) (λ c. search (needs, reaction-is)))

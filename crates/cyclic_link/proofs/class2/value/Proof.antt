@@ -1,12 +1,4 @@
--- By the laws of Class2Laws, one for each way out.
--- Assumes nothing.
-use borrow.Author.Needs.{needs}
-use Rattle.cyclic_link.proofs.Class2Laws.{values}
-use Rattle.cyclic_link.proofs.class2.value.Statement.{statement}
-use Rattle.cyclic_link.proofs.class2.value.Tie as tie
+use Rattle.cyclic_link.proofs.{Class2Laws.values, Class2Laws.needs, class2.value.Statement.statement, class2.value.Tie.close, class2.value.Tie.spec}
 
 pub value-spec : {M : Type 1} → statement M
-value-spec =
-    tie.close
-    (tie.spec
-    (λ c. search (needs, values)))
+value-spec = close (spec (λ c. search (needs, values)))

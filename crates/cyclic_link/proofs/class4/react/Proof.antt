@@ -1,17 +1,7 @@
 -- By the law of Class4Laws.
--- Assumes nothing.
-use borrow.Author.Needs.{needs}
-use Rattle.cyclic_link.proofs.Class4Laws.{reaction-is}
-use Rattle.cyclic_link.proofs.class4.react.Statement.{statement}
-use Rattle.cyclic_link.proofs.class4.react.Tie as tie
+use Rattle.cyclic_link.proofs.{Class4Laws.reaction-is, Class2Laws.needs, class4.react.Statement.statement, class4.react.Tie.close, class4.react.Tie.spec}
 
 pub react-spec : {M : Type 1} → statement M
-react-spec =
-    tie.close
-    (tie.spec
-    (λ c κs. search needs)
-    (λ c κs. search needs)
-    (λ c κs. search needs)
-    (λ c κs. search needs)
-    (λ c κs. search needs)
+react-spec = close (spec
+    (λ c κs. search needs) (λ c κs. search needs) (λ c κs. search needs) (λ c κs. search needs) (λ c κs. search needs)
     (λ c. search (needs, reaction-is)))

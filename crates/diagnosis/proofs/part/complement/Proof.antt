@@ -1,14 +1,4 @@
--- By the laws of PartLaws, one for each way out.
--- Assumes nothing.
-use borrow.Author.Needs.{needs}
-use Rattle.diagnosis.proofs.PartLaws.{parts}
-use Rattle.diagnosis.proofs.part.complement.Statement.{statement}
-use Rattle.diagnosis.proofs.part.complement.Tie as tie
+use Rattle.diagnosis.proofs.{PartLaws.parts, PartLaws.needs, part.complement.Statement.statement, part.complement.Tie.close, part.complement.Tie.spec}
 
 pub complement-spec : {M : Type 1} → statement M
-complement-spec =
-    tie.close
-    (tie.spec
-    (λ c κs. search needs)
-    (λ c. search (needs, parts))
-    (λ c. search (needs, parts)))
+complement-spec = close (spec (λ c κs. search needs) (λ c. search (needs, parts)) (λ c. search (needs, parts)))

@@ -1,22 +1,7 @@
--- By the laws of PartLaws, one for each way out.
--- Assumes nothing.
-use borrow.Author.Needs.{needs}
-use Rattle.diagnosis.proofs.PartLaws.{parts}
-use Rattle.diagnosis.proofs.part.fill_identity.Statement.{statement}
-use Rattle.diagnosis.proofs.part.fill_identity.Tie as tie
+use Rattle.diagnosis.proofs.{PartLaws.parts, PartLaws.needs, part.fill_identity.Statement.statement, part.fill_identity.Tie.close}
+use Rattle.diagnosis.proofs.{part.fill_identity.Tie.spec}
 
 pub fill-identity-spec : {M : Type 1} → statement M
-fill-identity-spec =
-    tie.close
-    (tie.spec
-    (λ c. search needs)
-    (λ c. search needs)
-    (λ c. search needs)
-    (λ c. search needs)
-    (λ c κs. search (needs, parts))
-    (λ c. search needs)
-    (λ c. search needs)
-    (λ c. search needs)
-    (λ c κs. search needs)
-    (λ c. search needs)
-    (λ c. search (needs, parts)))
+fill-identity-spec = close (spec
+    (λ c. search needs) (λ c. search needs) (λ c. search needs) (λ c. search needs) (λ c κs. search (needs, parts)) (λ c. search needs)
+    (λ c. search needs) (λ c. search needs) (λ c κs. search needs) (λ c. search needs) (λ c. search (needs, parts)))

@@ -1,30 +1,9 @@
--- By the laws of PartLaws, one for each way out.
--- Assumes nothing.
-use borrow.Author.Needs.{needs}
-use Rattle.diagnosis.proofs.PartLaws.{parts}
-use Rattle.diagnosis.proofs.part.fill_versions.Statement.{statement}
-use Rattle.diagnosis.proofs.part.fill_versions.Tie as tie
+use Rattle.diagnosis.proofs.{PartLaws.parts, PartLaws.needs, part.fill_versions.Statement.statement, part.fill_versions.Tie.close}
+use Rattle.diagnosis.proofs.{part.fill_versions.Tie.spec}
 
 pub fill-versions-spec : {M : Type 1} → statement M
-fill-versions-spec =
-    tie.close
-    (tie.spec
-    (λ c. search needs)
-    (λ c. search needs)
-    (λ c. search needs)
-    (λ c. search needs)
-    (λ c κs. search (needs, parts))
-    (λ c. search needs)
-    (λ c. search needs)
-    (λ c. search needs)
-    (λ c κs. search needs)
-    (λ c. search needs)
-    (λ c. search needs)
-    (λ c. search needs)
-    (λ c κs. search needs)
-    (λ c. search needs)
-    (λ c. search needs)
-    (λ c. search needs)
-    (λ c κs. search needs)
-    (λ c. search needs)
+fill-versions-spec = close (spec
+    (λ c. search needs) (λ c. search needs) (λ c. search needs) (λ c. search needs) (λ c κs. search (needs, parts)) (λ c. search needs)
+    (λ c. search needs) (λ c. search needs) (λ c κs. search needs) (λ c. search needs) (λ c. search needs) (λ c. search needs) (λ c κs. search needs)
+    (λ c. search needs) (λ c. search needs) (λ c. search needs) (λ c κs. search needs) (λ c. search needs)
     (λ c. (search (needs, parts), search (needs, parts))))

@@ -1,12 +1,5 @@
 -- By the bits.
--- Assumes nothing.
-use borrow.Author.Needs.{needs}
-use Rattle.encoder.proofs.operating.scaling.Statement.{statement}
-use Rattle.encoder.proofs.operating.scaling.Tie as tie
+use Rattle.encoder.proofs.{PlateLaws.needs, operating.scaling.Statement.statement, operating.scaling.Tie.close, operating.scaling.Tie.spec}
 
 pub scaling-spec : {M : Type 1} → statement M
-scaling-spec =
-    tie.close
-    (tie.spec
-    (λ c κs. search needs) (λ c κs. search needs)
-    (λ c. rw (c .bit .ensures, c .before .class-on .ensures)))
+scaling-spec = close (spec (λ c κs. search needs) (λ c κs. search needs) (λ c. rw (c .bit .ensures, c .before .class-on .ensures)))

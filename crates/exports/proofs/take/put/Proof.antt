@@ -1,13 +1,8 @@
 -- Either class.
--- Assumes nothing.
-use borrow.Author.Needs.{needs}
-use Rattle.exports.proofs.take.put.Statement.{statement}
-use Rattle.exports.proofs.take.put.Tie as tie
+use Rattle.exports.proofs.{NumbersLaws.needs, take.put.Statement.statement, take.put.Tie.close, take.put.Tie.spec}
 
 pub put-spec : {M : Type 1} → statement M
-put-spec =
-    tie.close
-    (tie.spec
+put-spec = close (spec
     (λ c. search needs) (λ c. search needs)
     (λ c κs. let two = c .before .before in rw (two .parameters .given .1) at (two .before .before .before .pre)) (λ c. search needs)
     (λ c. search needs) (λ c. search needs) (λ c. search needs)

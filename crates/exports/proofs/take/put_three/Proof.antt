@@ -1,12 +1,5 @@
 -- Stores fill the list.
--- Assumes nothing.
-use borrow.Author.Needs.{needs}
-use Rattle.exports.proofs.NumbersLaws.{three-filled}
-use Rattle.exports.proofs.take.put_three.Statement.{statement}
-use Rattle.exports.proofs.take.put_three.Tie as tie
+use Rattle.exports.proofs.{NumbersLaws.three-filled, NumbersLaws.needs, take.put_three.Statement.statement, take.put_three.Tie.close, take.put_three.Tie.spec}
 
 pub put-three-spec : {M : Type 1} → statement M
-put-three-spec =
-    tie.close
-    (tie.spec
-    (λ c. search needs) (λ c. search needs) (λ c. search needs) (λ c. search needs) (λ c. search (needs, three-filled)))
+put-three-spec = close (spec (λ c. search needs) (λ c. search needs) (λ c. search needs) (λ c. search needs) (λ c. search (needs, three-filled)))

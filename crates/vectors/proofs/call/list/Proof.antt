@@ -1,23 +1,8 @@
 -- The part that is lent has as many numbers as asked.
--- Assumes nothing.
-use borrow.Author.Needs.{needs}
-use native.Mathlib.Omega.{arith}
-use lib.ListN.{length-take}
-use Rattle.vectors.proofs.call.list.Statement.{statement}
-use Rattle.vectors.proofs.call.list.Tie as tie
+use Rattle.integer.specs.Base.{arith, length-take}
+use Rattle.vectors.proofs.{ParseLaws.needs, call.list.Statement.statement, call.list.Tie.close, call.list.Tie.spec}
 
 pub list-spec : {M : Type 1} → statement M
-list-spec =
-    tie.close
-    (tie.spec
-    (λ c κs. search needs)
-    (λ c. search needs)
-    (λ c κs. search needs)
-    (λ c. search needs)
-    (λ c. search needs)
-    (λ c. search needs)
-    (λ c. search needs)
-    (λ c. search needs)
-    (λ c. simp length-take (omega arith))
-    (λ c κs. search needs)
-    (λ c. search needs))
+list-spec = close (spec
+    (λ c κs. search needs) (λ c. search needs) (λ c κs. search needs) (λ c. search needs) (λ c. search needs) (λ c. search needs) (λ c. search needs)
+    (λ c. search needs) (λ c. simp length-take (omega arith)) (λ c κs. search needs) (λ c. search needs))

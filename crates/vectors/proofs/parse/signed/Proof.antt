@@ -1,23 +1,8 @@
 -- A number of 32 bits with a minus fits 64.
--- Assumes nothing.
-use borrow.Author.Needs.{needs}
-use Rattle.ring.proofs.RingLaws.{end-fits}
-use Rattle.vectors.proofs.parse.signed.Statement.{statement}
-use Rattle.vectors.proofs.parse.signed.Tie as tie
+use Rattle.ring.proofs.{end-fits}
+use Rattle.vectors.proofs.{ParseLaws.needs, parse.signed.Statement.statement, parse.signed.Tie.close, parse.signed.Tie.spec}
 
 pub signed-spec : {M : Type 1} → statement M
-signed-spec =
-    tie.close
-    (tie.spec
-    (λ c κs. search needs)
-    (λ c. search needs)
-    (λ c. search needs)
-    (λ c κs. search needs)
-    (λ c κs. search needs)
-    (λ c. search needs)
-    (λ c. search (needs, end-fits))
-    (λ c. search needs)
-    (λ c κs. search needs)
-    (λ c κs. search needs)
-    (λ c. search needs)
-    (λ c. search needs))
+signed-spec = close (spec
+    (λ c κs. search needs) (λ c. search needs) (λ c. search needs) (λ c κs. search needs) (λ c κs. search needs) (λ c. search needs)
+    (λ c. search (needs, end-fits)) (λ c. search needs) (λ c κs. search needs) (λ c κs. search needs) (λ c. search needs) (λ c. search needs))

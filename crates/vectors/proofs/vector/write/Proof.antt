@@ -1,21 +1,8 @@
 -- The part that is lent has as many octets as asked.
--- Assumes nothing.
-use borrow.Author.Needs.{needs}
-use native.Mathlib.Omega.{arith}
-use lib.ListN.{length-take}
-use Rattle.vectors.proofs.vector.write.Statement.{statement}
-use Rattle.vectors.proofs.vector.write.Tie as tie
+use Rattle.integer.specs.Base.{arith, length-take}
+use Rattle.vectors.proofs.{ParseLaws.needs, vector.write.Statement.statement, vector.write.Tie.close, vector.write.Tie.spec}
 
 pub write-spec : {M : Type 1} → statement M
-write-spec =
-    tie.close
-    (tie.spec
-    (λ c κs. search needs)
-    (λ c κs. search needs)
-    (λ c κs. search needs)
-    (λ c. search needs)
-    (λ c. search needs)
-    (λ c. simp length-take (omega arith))
-    (λ c κs. search needs)
-    (λ c. search needs)
-    (λ c. search needs))
+write-spec = close (spec
+    (λ c κs. search needs) (λ c κs. search needs) (λ c κs. search needs) (λ c. search needs) (λ c. search needs) (λ c. simp length-take (omega arith))
+    (λ c κs. search needs) (λ c. search needs) (λ c. search needs))

@@ -1,31 +1,12 @@
 -- By the calls, in the order of the definition.
--- Assumes nothing.
-use borrow.Author.Needs.{needs}
-use Rattle.encoder.specs.Rows.{fieldsRefusal}
-use Rattle.encoder.proofs.PlateLaws.{fits-product}
-use Rattle.encoder.proofs.parameters.Fields.refusal.Statement.{statement}
-use Rattle.encoder.proofs.parameters.Fields.refusal.Tie as tie
+use Rattle.encoder.specs.{fieldsRefusal}
+use Rattle.encoder.proofs.{PlateLaws.fits-product, PlateLaws.needs, parameters.Fields.refusal.Statement.statement, parameters.Fields.refusal.Tie.close}
+use Rattle.encoder.proofs.{parameters.Fields.refusal.Tie.spec}
 
 pub refusal-spec : {M : Type 1} → statement M
 unfolding fieldsRefusal
-refusal-spec =
-    tie.close
-    (tie.spec
-    (λ c. search needs) (λ c. search needs) (λ c κs. search needs) (λ c. search needs)
-    (λ c. search (needs, fits-product))
-    (λ c κs. search needs) (λ c κs. search needs) (λ c κs. search needs) (λ c κs. search needs) (λ c κs. search needs) (λ c κs. search needs) (λ c κs. search needs) (λ c κs. search needs)
-    (λ c.
-    let tests = c .before .before .before in
-    let units = tests .before .before in
-    let bits = units .before .before .before in
-    rw (
-      c .first3 .ensures,
-      c .before .first2 .ensures,
-      c .before .before .first .ensures,
-      tests .when4 .ensures,
-      units .when3 .ensures,
-      units .before .when2 .ensures,
-      units .before .before .when .ensures,
-      bits .reserved .ensures,
-      bits .before .before .scaling .ensures,
-    )))
+refusal-spec = close (spec
+    (λ c. search needs) (λ c. search needs) (λ c κs. search needs) (λ c. search needs) (λ c. search (needs, fits-product)) (λ c κs. search needs)
+    (λ c κs. search needs) (λ c κs. search needs) (λ c κs. search needs) (λ c κs. search needs) (λ c κs. search needs) (λ c κs. search needs)
+    (λ c κs. search needs)
+    (λ c. let tests = c .before .before .before in let units = tests .before .before in let bits = units .before .before .before in rw (c .first3 .ensures, c .before .first2 .ensures, c .before .before .first .ensures, tests .when4 .ensures, units .when3 .ensures, units .before .when2 .ensures, units .before .before .when .ensures, bits .reserved .ensures, bits .before .before .scaling .ensures)))
