@@ -1,10 +1,15 @@
 #!/usr/bin/env python3
 """Checks a trace table against the repository: python3 docs/trace.py docs/TRACE.md . [PAPER]
 
-Of the second and third column: that each backticked path exists; that each backticked name is defined in the file named next behind it in the
-same cell; that each must-fail edit (crate/label) exists; that each text quoted after "vectors" is a remark of crates/vectors/stdin, each after
-"starred" a remark of crates/starred_values/specs/Starred.antt, and any other quoted text stands in the file named next. With PAPER: that the first
-column is taken from it, piece by piece (" .. " marks what is left out).
+It checks in the second and third column that
+- each backticked path exists;
+- each backticked name is defined in the file that is named next after it in the same cell;
+- each must-fail edit (crate/label) exists;
+- each text quoted after "vectors" is a remark of crates/vectors/stdin;
+- each text quoted after "starred" is a remark of crates/starred_values/specs/Starred.antt;
+- any other quoted text stands in the file that is named next.
+
+With PAPER it also checks that the first column is taken from the paper, piece by piece (" .. " marks what is left out).
 """
 import os
 import re
@@ -12,7 +17,7 @@ import sys
 
 SUFFIX = (".antt", ".rt", ".md", ".py", ".log", ".txt")
 PLAIN = {"vectors/stdin", "vectors/stdout", "axislog/stdin", "axislog/stdout", "logs/stdout", "logs/args"}
-# words of the languages that stand in backticks without being names of the repository, and patterns for places
+# words in backticks that are not names of the repository: words of the languages, and patterns for places
 WORDS = {"r ≡ ..", "now (.. .exit) ≡ ..", "ensures", "pub fn", "i64", "u16", "[]", "src/", "specs/", "proofs/", "crates/", "docs/", "model/", "name", "path"}
 
 

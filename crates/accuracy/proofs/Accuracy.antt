@@ -1,6 +1,5 @@
--- THE THEOREM (document 01, "The distance rule", demand 3): what is claimed of every program in specs/Claim.antt holds of ours. By the list of
--- calls: the start stands beside the opened ledger, and each call again beside the ledger that has noted it.
--- Assumes nothing.
+-- THE THEOREM (document 01, "The distance rule", demand 3): the claim of specs/Claim.antt holds of the library. By induction on the calls: the start
+-- matches the opened ledger, and each call keeps the match.
 use Rattle.integer.specs.Base.{_≡_, List, [], _∷_, ℕ, _<_, leb, ℤ}
 use Rattle.encoder.specs.{capacityOf, wrongTurn, when, refusalOn}
 use Rattle.encoder.proofs.{before-none}

@@ -1,6 +1,5 @@
--- A cycle beside a ledger. Faulty, it moves nothing and makes no preset. Otherwise it is the accepted raw number and then, where the ledger has
--- settled that one is made, the preset.
--- Assumes nothing.
+-- A cycle beside a ledger. A faulty cycle moves nothing and makes no preset. Any other accepts the raw number and then makes the preset, if the ledger
+-- says that one is made.
 use Rattle.integer.specs.Base.{_≡_, refl, Bool, true, false, cond, not, _&&_, and-true, List, [], _∷_, ℕ, zero, suc, arith, eqb, ℤ, _+ℤ_, ne-eqb}
 use Rattle.encoder.specs.{answer}
 use Rattle.axis_shaft.specs.{moveRefusal, movedTo}

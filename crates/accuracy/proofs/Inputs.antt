@@ -1,5 +1,4 @@
 -- The positions in a cycle's input, read back out of the octets, are the axis' own: they are below 2^32, so that four octets hold them.
--- Assumes nothing.
 use Rattle.integer.specs.Base.{_≡_, true, false, List, _++_, ℕ, _^_, _<_, arith, ℤ}
 use Rattle.integer.specs.{part, bigEndian, octets}
 use Rattle.integer.proofs.{modulo-lt, bigEndian-octets}

@@ -1,6 +1,5 @@
--- What holds of an axis beside its ledger, through all calls: the ledger's p is the origin of phase, offset and true travel. So the position agrees
--- with the ledger; and start, accepted reading and preset keep it.
--- Assumes nothing.
+-- The invariant of an axis beside its ledger: the ledger's p is the origin of phase, offset and true travel. So the position agrees with the ledger.
+-- Start, accepted reading and preset keep it.
 use Rattle.integer.specs.Base.{_≡_, _∙_, ℕ, _*_, _%_, _<_, ℤ, pos, _+ℤ_, _-ℤ_}
 use Rattle.phase.specs.{origin}
 use Rattle.phase.proofs.{place-units, place-start, place-move}

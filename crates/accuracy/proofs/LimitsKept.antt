@@ -1,5 +1,4 @@
 -- Every call on an acceptable axis leaves an acceptable one, so that 16 never comes of a record of our own making.
--- Assumes nothing.
 use Rattle.integer.specs.Base.{_≡_, true}
 use Rattle.axis.specs.{acceptable}
 use Rattle.axis.proofs.{Limits, limits-of, accepts, raw-kept, read-kept, preset-kept, store-kept}

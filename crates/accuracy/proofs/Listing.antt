@@ -1,5 +1,4 @@
 -- What the claim says of a program on the listing's axis, first at step 8 of turn 2, which is raw number 28: of its first call, and of another after it.
--- Assumes nothing.
 use Rattle.integer.specs.Base.{_≡_, refl, [], _∷_, ℕ, ℤ}
 use Rattle.encoder.specs.{plateRefusal, fieldsRefusal, refusalOn}
 use Rattle.sensor.specs.{stepRefusal}

@@ -1,6 +1,5 @@
--- What it says of a position that it agrees with a ledger, in natural numbers; and that two positions which agree with one ledger are at most one unit
--- apart around the total range, so that the claim pins a position down.
--- Assumes nothing.
+-- What `Agrees` says, in natural numbers. Two positions that agree with one ledger are at most one unit apart around the total range, so that the claim
+-- pins a position down.
 use Rattle.integer.specs.Base.{ap, ℕ, _+_, _*_, _<_, arith, ℤ, pos, natAbs, _-ℤ_, _*ℤ_}
 use Rattle.integer.proofs.{above, below, signed, apart, neg-is, diff-is, mul-is, abs-is}
 use Rattle.phase.proofs.{off-is}

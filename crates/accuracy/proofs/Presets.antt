@@ -1,6 +1,4 @@
--- A preset beside a ledger: the position is the one that rule 6 gives, and state and ledger, which then counts from it, stand beside each other
--- again.
--- Assumes nothing.
+-- A preset beside a ledger: the position is the one that rule 6 gives, and the ledger then counts from it.
 use Rattle.integer.specs.Base.{refl, Bool, true, false, ℕ, ℤ}
 use Rattle.axis.specs.{rulesOn, unshiftedOf, positionOf, asked, presetted}
 use Rattle.axis.proofs.{Limits, asked-lt, put-is}

@@ -1,6 +1,5 @@
--- The ledger's table is that of the calls: on an axis within its limits 16 does not arise, and each call is refused by the number that the ledger
--- has settled from the arguments, and otherwise goes where its rule says.
--- Assumes nothing.
+-- The ledger's table is that of the calls: an axis within its limits does not get 16, and each call answers the number that the ledger works out from
+-- the arguments; at 0 it goes where its rule says.
 use Rattle.integer.specs.Base.{_≡_, refl, List, ℕ, zero, suc, ℤ}
 use Rattle.encoder.specs.{answer}
 use Rattle.sensor.specs.{rawOf}
@@ -14,7 +13,7 @@ use Rattle.cyclic.specs.{cycleRefusal, linkLeft, axisAfter, inputOf, done, refu
 use Rattle.accuracy.specs.{Call, reading, rawReading, batching, presetting, storing, cycling, refusalBy, State, to, both, yields}
 use Rattle.accuracy.proofs.Standing.{deviceOf, ledgerOf, onward}
 
--- where a call leads that is not refused
+-- the state after an accepted call
 abbrev pub goes : State → Call → State
 goes s (reading step turn) = onward s (atRaw (s .axis) (rawOf (s .axis .nameplate) step turn))
 goes s (rawReading raw) = onward s (atRaw (s .axis) raw)
@@ -23,7 +22,7 @@ goes s (presetting v relative) = onward s (presetted (s .axis) v relative)
 goes s (storing v) = onward s (holding (s .axis) v)
 goes s (cycling raw output input) = record { axis = axisAfter (s .axis) (s .link) raw output; link = linkLeft (s .axis) (s .link) raw output }
 
--- what is made of an answer is an answer by the same number
+-- a function of an answer is an answer by the same number
 through : {A B : Type 0} (f : A → B) (r : ℕ → A) (t : A) (n : ℕ) → f (answer r t n) ≡ answer (λ (i : ℕ). f (r i)) (f t) n
 through f r t zero = refl
 through f r t (suc n) = refl
@@ -57,7 +56,7 @@ module _ (s : State) (p : ℕ) (g : ℤ) (lim : Limits (s .axis)) where
   settled (cycling raw output input) =
       rw (cycle-is raw output input) (through both (kept (s .axis) (s .link)) (done _ _) (number (cycling raw output input)))
 
-  -- the lent buffers of calls that are not refused
+  -- the lent buffers of accepted calls
   pub list-is : (raws positions : List ℕ) → number (batching raws positions) ≡ 0 → batchList (s .axis) raws positions ≡ positionsOf (s .axis) raws
   unfolding batchList
   list-is raws positions e = rw (batch-is raws positions, e)

@@ -1,6 +1,5 @@
--- A state of ours beside a ledger. The state has all of the ledger but p and g, and all of the device: so a state, p and g tell both, and what is kept
--- is one equation. What an accepted raw number leaves stands so again, and so do accepted raw numbers one after the other.
--- Assumes nothing.
+-- A state of the library beside a ledger. The state holds the device and all of the ledger but p and g, so that what is kept is one equation. Accepted
+-- raw numbers keep it, one or many.
 use Rattle.integer.specs.Base.{_≡_, refl, List, [], _∷_, ℕ, suc, ℤ, _+ℤ_}
 use Rattle.encoder.proofs.{before-none}
 use Rattle.axis_shaft.specs.{moveRefusal, movedTo, refusalIn}

@@ -1,6 +1,5 @@
--- One call beside a ledger: whatever it was, the state stands beside the ledger that has noted it, a preset that it made is the one that rule 6
--- gives, and each position in a lent buffer agrees with the ledger at its own moment. One case for each kind of call.
--- Assumes nothing.
+-- One call beside a ledger: the state after it matches the ledger after it, a preset puts the position where rule 6 says, and each position in a lent
+-- buffer agrees with the ledger at its own moment. One case for each kind of call.
 use Rattle.integer.specs.Base.{_≡_, refl, not, List, [], ℕ, zero, suc, eqb, ℤ, length}
 use Rattle.encoder.specs.{wrongBuffer, when, answer}
 use Rattle.encoder.proofs.{before-none}
@@ -22,7 +21,7 @@ module _ (s : State) (p : ℕ) (g : ℤ) (lim : Limits (s .axis)) (k : Keeps s p
   abbrev l : Ledger
   l = ledgerOf s p g
 
-  -- ---- a call that is not refused
+  -- ---- an accepted call
   batch-done : (raws positions : List ℕ) → refusalBy d l (batching raws positions) ≡ 0 → Supposed d (l .last) raws m
       → Matches d (onward s (after (s .axis) raws)) (withReadings l raws m) × Entries d l raws m (positionsOf (s .axis) raws)
   batch-done raws positions e h =
@@ -39,7 +38,7 @@ module _ (s : State) (p : ℕ) (g : ℤ) (lim : Limits (s .axis)) (k : Keeps s p
   taken (storing v) e h = record { stands = record { device = refl; ledger = refl; kept = k }; puts = tt }
   taken (cycling raw output input) e h = cycle-by s p g lim k raw output input m (moveRefusal (force d) (l .last) raw) refl h
 
-  -- ---- refused, it does nothing
+  -- ---- a refused call does nothing
   by-number : (c : Call) (n : ℕ) → refusalBy d l c ≡ n → Supposed d (l .last) (answer (λ (i : ℕ). moves l []) (does d l c) n .numbers) m
       → Done s l m (answer (λ (i : ℕ). moves l []) (does d l c) n) (answer (λ (i : ℕ). s) (goes s c) n)
   unfolding withReadings

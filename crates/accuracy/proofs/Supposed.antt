@@ -1,6 +1,5 @@
 -- What is supposed of the true steps says just this: they are the d of rule 3. So an accepted reading moves the axis by the true steps; and what is
 -- supposed can be met, for every raw number that is accepted.
--- Assumes nothing.
 use Rattle.integer.specs.Base.{_≡_, ap, List, [], _∷_, ℕ, zero, suc, _+_, _*_, ℤ, pos, _-ℤ_, _*ℤ_}
 use Rattle.integer.proofs.{above, below, signed, add-is, diff-is, mul-is, of-eq, modulo-has, modulo-alike}
 use Rattle.encoder.specs.{Sound}

@@ -1,5 +1,4 @@
 -- The definitions give what was worked out by hand: computed.
--- Assumes nothing.
 use Rattle.integer.specs.Base.{_≡_, refl}
 use Rattle.integer.specs.{_modulo_, bigEndian, octets}
 use Rattle.ring.specs.{inRange}

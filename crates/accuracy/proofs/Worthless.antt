@@ -1,6 +1,5 @@
--- Worthless programs break the claim, each on the listing's axis and within two calls: where a position is reported, no whole number of ranges brings
--- it within a unit of the exact one; where a preset is made, the position is not the one that rule 6 gives.
--- Assumes nothing.
+-- Worthless programs break the claim, each on the listing's axis and within two calls: the reported position is a unit or more from the exact one, or a
+-- preset does not put the position where rule 6 says.
 use Rattle.integer.specs.Base.{_≡_, refl, true, false, [], _∷_, ℕ, _*_, _<_, arith, ℤ, pos, natAbs}
 use Rattle.integer.specs.{_modulo_, bigEndian, octets}
 use Rattle.integer.proofs.{apart, abs-is}

@@ -1,5 +1,4 @@
 -- The start and the calls on an axis as data: each kind with its own arguments and lent buffers, whatever their lengths and contents.
--- Assumes nothing.
 use Rattle.integer.specs.Base.{Bool, List, ℕ, ℤ}
 
 -- a start is by the step and the turn of a first reading, or by its raw number

@@ -1,20 +1,19 @@
 -- THE CLAIM (document 01, "The distance rule", demand 3): no position that is reported is ever a whole unit away from the exact one.
 --
--- Supposed is, of each raw number that is accepted after the first: the shaft has truly moved by m steps since the one before, by less than half the
--- sensor's range either way, and the sensor shows where it came to. Nothing else is: the plate, the parameters and the first reading are any that
--- start an axis, and the calls are any list, in any order, with any arguments and lent buffers, refused calls and faulty cycles among them.
+-- It supposes of each raw number accepted after the first: the shaft has truly moved by m steps since the one before, by less than half the sensor's
+-- range either way, and the sensor shows where it came to. It supposes nothing else: plate, parameters and first reading are any that start an axis,
+-- and the calls are any list, in any order, with any arguments and lent buffers, refused calls and faulty cycles among them.
 --
--- Claimed is, of every position at the moment when it is reported: it lies less than one unit from p + g × M / R, counted around the total range L.
--- Here p is the position just after the last preset, and g the true steps since then; before any preset p is 0, and g counts from the sensor's zero.
--- And each preset puts the position where rule 6 says.
+-- It claims of every position, at the moment when it is reported: the position lies less than one unit from p + g × M / R, counted around the total
+-- range L. Here p is the position just after the last preset, and g the true steps since then; before any preset p is 0, and g counts from the sensor's
+-- zero. And each preset puts the position where rule 6 says.
 --
--- The claim is of any program, and sees nothing of it but the positions that it reports. The ledger that keeps p and g (Ledger.antt) is told the calls
--- and the true steps; it asks the program for one thing, the position just after a preset, which rule 6 settles. So no program of document 01's table
--- meets the claim: one that always shows 0, turns calls away, claims half range or ignores readings is found out as soon as the shaft has moved on by a
--- unit; one that ignores presets, by rule 6; one that copies a pass's first position on, at the second entry; one that scales the raw number afresh,
--- when the sensor begins again; one that adds rounded moves, when what it cut off comes to a unit. Worthless.antt in proofs/ refutes each of these, and
+-- The claim is of any program, and sees only the positions that the program reports. The ledger that keeps p and g (Ledger.antt) gets the calls and the
+-- true steps; it asks the program for one thing, the position just after a preset, which rule 6 settles. So no program of document 01's table meets the
+-- claim. A program that always shows 0, turns calls away, claims half range or ignores readings breaks it as soon as the shaft has moved by a unit; one
+-- that ignores presets, by rule 6; one that copies a pass's first position on, at the second entry; one that scales the raw number afresh, when the
+-- sensor begins again; one that adds rounded moves, when the parts cut off come to a unit. Worthless.antt in proofs/ refutes each of these, and
 -- Accuracy.antt proves the claim of ours.
--- Assumes nothing.
 use Rattle.integer.specs.Base.{_≡_, true, false, List, [], _∷_, ℕ, suc, _*_, _<_, ℤ, pos, negℤ, natAbs, _+ℤ_, _-ℤ_, _*ℤ_, _<ℤ_}
 use Rattle.integer.specs.{bit, _modulo_, part, bigEndian}
 use Rattle.encoder.specs.{Nameplate, Parameters, fieldsOf}
@@ -94,7 +93,7 @@ Rule6 d none before reported = Unit
 Rule6 d (made v false) before reported = reported ≡ v modulo force d .span .0
 Rule6 d (made v true) before reported = reported ≡ (pos before +ℤ v) modulo force d .span .0
 
--- a relative one counts from the position after the call's raw numbers, which is the one that they lead to when read singly
+-- a relative preset counts from the position after the call's raw numbers, read singly
 unfoldable pub readSingly : (p : Program) → p .State → List ℕ → p .State
 readSingly p a [] = a
 readSingly p a (raw ∷ raws) = readSingly p (p .call a (rawReading raw)) raws

@@ -1,7 +1,6 @@
 -- The ledger (document 01, "The distance rule", its second paragraph). It is fed the arguments of the calls, the true steps m beside each
 -- accepted raw number, and one answer, the position just after a preset. It settles by the table and the rules what is accepted and whether a
 -- preset is made: it keeps the last accepted raw number, the held preset value and the link state itself, and never looks at an axis record.
--- Assumes nothing.
 use Rattle.integer.specs.Base.{Bool, false, cond, not, _&&_, List, [], _∷_, ℕ, suc, eqb, ltb, ℤ, pos, _+ℤ_, length}
 use Rattle.encoder.specs.{Nameplate, Parameters, InForce, wrongBuffer, when, _before_, answer, fieldsOf, rulesOf}
 use Rattle.sensor.specs.{rawOf, stepRefusal}
@@ -100,7 +99,7 @@ does d l (cycling raw output input) =
       link = linkAfter (force d) (d .parameters) (l .link) (not (eqb refusal 0)) output;
     }
 
--- refused, it does nothing
+-- a refused call does nothing
 abbrev pub deed : Device → Ledger → Call → Deed
 deed d l c = answer (λ _. moves l []) (does d l c) (refusalBy d l c)
 

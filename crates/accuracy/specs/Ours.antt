@@ -1,5 +1,4 @@
 -- The program that the theorem is of: the library. The must-fail edits ask for the theorem of a worthless program in its place.
--- Assumes nothing.
 use Rattle.accuracy.specs.{Claim.Program, Run.library}
 
 abbrev pub ours : Program

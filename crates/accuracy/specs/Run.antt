@@ -1,6 +1,5 @@
 -- What the library makes of the calls: the definitions that its contracts cite. Axis and link record, the latter all 0 at first, go from call to
 -- call as left.
--- Assumes nothing.
 use Rattle.integer.specs.Base.{List, [], ℕ}
 use Rattle.encoder.specs.{Nameplate, Parameters}
 use Rattle.axis.specs.{Axis, Next, reported, start, startRaw, readRaw, read, preset, store}

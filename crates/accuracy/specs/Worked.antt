@@ -1,6 +1,5 @@
 -- Worked runs that the claim speaks of: calls of every kind, refused ones, wraps, presets and faults among them, for class 2, for class 4, and for class
 -- 4 under block bit 2. Beside each call stands what was worked out from document 01 by hand: the position after it, p and g, and the lent list or octets.
--- Assumes nothing.
 use Rattle.integer.specs.Base.{true, false, List, [], _∷_, ℕ, zero, suc, ℤ, pos, negsuc}
 use Rattle.encoder.specs.{plate, Class2, Class4}
 use Rattle.accuracy.specs.{Calls.firstReading, Calls.Call, Calls.reading, Calls.rawReading, Calls.batching, Calls.presetting, Calls.storing, Calls.cycling}
@@ -67,7 +66,7 @@ run2 =
     ∷ line (cycling 11 (o 0 0 0 0) (1 ∷ 2 ∷ 3 ∷ [])) [] 6 5 (pos 1) (1 ∷ 2 ∷ 3 ∷ [])
     ∷ []
 
--- started at step 2 of turn 0: raw number 2, which is 28 against the raw number, position 1
+-- started at step 2 of turn 0: raw number 2, oriented number 28, position 1
 abbrev pub run4 : List Line
 run4 =
     line (storing (pos 2)) [] 1 0 (pos 28) []

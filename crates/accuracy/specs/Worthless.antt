@@ -1,6 +1,5 @@
 -- Programs that document 01 would send back ("Programs we would send back", "Traps on the bench"), each as ours but for one thing. Each breaks the
 -- claim: proofs/Worthless.antt.
--- Assumes nothing.
 use Rattle.integer.specs.Base.{Bool, false, cond, List, ℕ, _*_, _/_, _%_, pos, _+ℤ_, _-ℤ_, _*ℤ_, length, getD, replicate, quotZ}
 use Rattle.integer.specs.{_modulo_}
 use Rattle.axis_shaft.specs.{oriented, moveOf, Reported, At}

@@ -1,5 +1,4 @@
--- The limits of a record as a test and as facts, each way out of the test, and the answer taken apart.
--- Assumes nothing.
+-- The limits of a record, as a test and as facts. A record outside them gets 16 from every call.
 use Rattle.integer.specs.Base.{_≡_, sym, _∙_, Bool, true, false, _&&_, ℕ, _<_, arith, natAbs, lt-ltb, ltb-true, eq-eqb, ne-eqb, eqb-true, w64, SFits, toZ, ofZ}
 use Rattle.integer.proofs.{reads, fits-abs}
 use Rattle.ring.specs.{inRange}
@@ -74,7 +73,7 @@ accepts a l =
       lt-ltb _ _ (l .stored),
     )
 
--- ---- so that 16 does not come up
+-- ---- a record within its limits does not get 16
 pub accepted-none : (a : Axis) → acceptable a ≡ true → axisRefusal a ≡ 0
 unfolding axisRefusal
 accepted-none a e = rw e
@@ -82,7 +81,7 @@ accepted-none a e = rw e
 pub limits-none : (a : Axis) → Limits a → axisRefusal a ≡ 0
 limits-none a l = accepted-none a (accepts a l)
 
--- ---- the answer taken apart
+-- ---- from the answer back to the number
 module _ (a : Axis) (e : Effect) where
   pub ready-of : (f : InForce) → e ≡ Taken f → e ≡ inForceOn a → Ready a f
   unfolding inForceOn axisRefusal
@@ -96,7 +95,7 @@ module _ (a : Axis) (e : Effect) where
   unfolding inForceOn
   outside-of n h e-is = effect-refused (axisRefusal a) n (rulesOn a) (sym e-is ∙ h)
 
--- whatever a call answers or leaves, on a record outside its limits it is by 16
+-- 16 of any call: x is its answer, or what it leaves in a lent buffer
 pub outside-answer : {A : Type 0} (refused : ℕ → A) (taken x : A) (a : Axis) (e : Effect) (n m : ℕ) → e ≡ Refused n → e ≡ inForceOn a → x ≡ refused n
     → x ≡ answer refused taken (axisRefusal a before m)
 outside-answer refused taken x a e n m h e-is x-is = let o = outside-of a e n h e-is in first-no refused taken x (axisRefusal a) m n (sym (o .0)) (o .1) x-is

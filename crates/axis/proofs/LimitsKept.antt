@@ -1,6 +1,5 @@
--- Every axis that a call yields from one within its limits is within its limits: what a call changes of the record is within them by the rule that
--- changes it. What is started is within them too, and what a refused start leaves is not.
--- Assumes nothing.
+-- A call on an axis within its limits yields an axis within its limits: each rule keeps within them what it changes. A started axis is within them,
+-- and the record of a refused start is not.
 use Rattle.integer.specs.Base.{_≡_, refl, Bool, true, false, not, ℕ, zero, suc, _<_, arith, ltb, leb, ℤ, pos, natAbs, _+ℤ_, _-ℤ_, ltb-true, leb-false}
 use Rattle.integer.proofs.{signed, apart, add-is, diff-is, abs-is, modulo-lt, modulo-is}
 use Rattle.ring.specs.{inRange}
@@ -19,13 +18,13 @@ use native.Mathlib.Nat as N
 pub apart-lt : (x y n : ℕ) → x < n → y < n → natAbs (pos x -ℤ pos y) < n
 apart-lt x y n h k = let z = pos x -ℤ pos y in omega (signed, diff-is (pos x) (pos y), abs-is z, apart z)
 
--- the axis of an answer is the one before, or that of a call that was taken
+-- a refused call yields the same axis, an accepted one the new axis
 pub by-number : (a b : Axis) (n : ℕ) → Limits a → (n ≡ 0 → Limits b) → Limits (next a n b .axis)
 by-number a b zero l k = k refl
 by-number a b (suc n) l k = l
 
 module _ (a : Axis) (l : Limits a) where
-  -- ---- a reading that is taken moves the travel within its limits
+  -- ---- an accepted reading moves the shaft within its limits
   pub raw-kept : (raw : ℕ) → Limits (readRaw a raw .axis)
   unfolding readRaw readRawRefusal
   raw-kept raw = by-number a (atRaw a raw) (readRawRefusal a raw) l (λ e. at-raw-kept a l raw (before-none (axisRefusal a) _ e .1))
@@ -108,7 +107,7 @@ module _ (n : Nameplate) (p : Parameters) (raw later : ℕ) where
   abbrev begins : ℕ → Next
   begins k = next (fresh n p nowhere) k (first n p raw)
 
-  -- by the refusal k of plate, parameters and then a first reading, which has a raw number below C where it is taken
+  -- k is the refusal of plate, parameters and first reading; an accepted first reading is below C
   by-start : (k : ℕ) → (refusalOn n p before later) ≡ k → (later ≡ 0 → raw < capacityOf n) → begins k .refusal ≡ 0 → acceptable (begins k .axis) ≡ true
   by-start zero e below z = let h = before-none (refusalOn n p) later e in accepts _ (begun-kept n p raw (h .0) (below (h .1)))
   by-start (suc k) e below z = absurd (omega arith)

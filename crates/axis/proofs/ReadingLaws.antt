@@ -1,5 +1,4 @@
--- Start and reading: each way out, by the answers of the calls on that way.
--- Assumes nothing.
+-- Start and reading: the first refusal in the table's order is the answer; else the axis is that of rules 2 to 4.
 pub use borrow.Author.Needs.{needs}
 use Rattle.integer.specs.Base.{_≡_, refl, sym, _∙_, false, ℕ, zero, suc, leb, lt-leb}
 use Rattle.encoder.specs.{Nameplate, Parameters, InForce, Effect, Taken, Refused as NotInForce, wrongTurn, when, _before_, answer, capacityOf, fieldsOf, refusalOn}
@@ -80,7 +79,7 @@ abbrev pub first : Nameplate → Parameters → ℕ → Axis
 first n p raw = fresh n p (started (rulesOf n (fieldsOf p)) raw)
 
 module _ (n : Nameplate) (p : Parameters) (e : Effect) (e-is : e ≡ inForce n p) (x : Next) where
-  -- 7, 3, 4, 5, 6 precede whatever a first reading is refused for
+  -- 7, 3, 4, 5, 6 come before the refusals of a first reading
   parameters-first : (j later : ℕ) (b : Axis) → e ≡ NotInForce j → x ≡ refused (fresh n p nowhere) j → x ≡ next (fresh n p nowhere) (refusalOn n p before later) b
   parameters-first j later b h w = let i = in-force-refused n p e j h e-is in w ∙ rw (i .0) (rw (before-first j later (i .1)) (sym (refused-is (refused (fresh n p nowhere)) _ j (i .1))))
 
@@ -88,7 +87,7 @@ module _ (n : Nameplate) (p : Parameters) (e : Effect) (e-is : e ≡ inForce n p
     parameters-none : refusalOn n p ≡ 0
     parameters-none = in-force-taken n p e f h e-is .0
 
-    -- of a raw number at or above C the travel answers 9, and of any other where it stands
+    -- the shaft answers 9 for a raw number of C or above, and else its place
     begun-next : (raw : ℕ) (m : Moved) → m ≡ begun f raw → x ≡ begunBy n p m → x ≡ next (fresh n p nowhere) (when (leb (capacityOf n) raw) wrongTurn) (first n p raw)
     unfolding rulesOf
     begun-next raw m m-is w =

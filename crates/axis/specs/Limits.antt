@@ -1,5 +1,4 @@
 -- The axis record, its limits, and the position that it stands at (document 01, "The axis", rules 4 and 5; row 16).
--- Assumes nothing.
 use Rattle.integer.specs.Base.{_≡_, Bool, true, not, _&&_, ℕ, _<_, eqb, natAbs}
 use Rattle.ring.specs.{inRange}
 use Rattle.encoder.specs.{InForce, Effect, Taken, Refused as NotInForce, noAxis, when, answer, fieldsOf, refusalOn, rulesOf}

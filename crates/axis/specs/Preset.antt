@@ -1,5 +1,4 @@
 -- Presets, and the held preset value (document 01, "The axis", rule 6; "One cycle" on the held preset value).
--- Assumes nothing.
 use Rattle.integer.specs.Base.{Bool, cond, ℕ, ℤ, pos, _+ℤ_, _-ℤ_}
 use Rattle.integer.specs.{_modulo_}
 use Rattle.encoder.specs.{_before_}

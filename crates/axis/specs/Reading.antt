@@ -1,5 +1,4 @@
 -- Start and reading: each yields the next axis, or the axis as it was beside the number of the refusal (document 01, "The axis", rules 2 and 3).
--- Assumes nothing.
 use Rattle.integer.specs.Base.{ℕ, leb, pos}
 use Rattle.encoder.specs.{Nameplate, Parameters, wrongTurn, when, _before_, answer, capacityOf, fieldsOf, refusalOn, rulesOf}
 use Rattle.sensor.specs.{rawOf, stepRefusal}
@@ -20,7 +19,7 @@ next a n b = answer (refused a) (accepted b) n
 abbrev pub fresh : Nameplate → Parameters → Shaft → Axis
 fresh n p k = record { nameplate = n; parameters = p; shaft = k; offset = pos 0; preset = pos 0; stored = pos 0 }
 
--- by where the first reading leads; what a refused start leaves is no started axis: every call on it gets 16
+-- the axis at its first reading; a refused start leaves a record that gets 16 from every call
 abbrev pub begunBy : Nameplate → Parameters → Moved → Next
 begunBy n p (To k) = accepted (fresh n p k)
 begunBy n p (NotMoved j) = refused (fresh n p nowhere) j
@@ -47,7 +46,7 @@ withShaft a k =
 unfoldable pub atRaw : Axis → ℕ → Axis
 atRaw a raw = withShaft a (movedTo (rulesOn a) (a .shaft) raw)
 
--- a raw number: 16, 9, 10 (the travel's own 16 lies behind that of the axis)
+-- a raw number: 16, 9, 10 (the shaft's own 16 never comes: the limits of the axis hold those of the shaft)
 unfoldable pub readRawRefusal : Axis → ℕ → ℕ
 readRawRefusal a raw = axisRefusal a before shaftRefusal (rulesOn a) (a .shaft) raw
 

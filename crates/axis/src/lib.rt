@@ -1,5 +1,5 @@
-// The axis: a nameplate, its parameters, where the shaft stands, and the offset by which presets shift the position (document 01, "The
-// axis"). Each call hands back the next axis, or the axis as it was beside the number of the refusal.
+// The axis: a nameplate, its parameters, the shaft, and the offset by which presets shift the position (document 01, "The axis"). A call yields
+// the next axis and 0, or the same axis and the number of the refusal.
 mod position;
 mod preset;
 mod reading;
@@ -34,7 +34,7 @@ pub struct Next {
 }
 
 impl Axis {
-    // What is in force, on an axis within its limits.
+    // What is in force. A record outside its limits gets 16.
     pub fn rules(self) -> Effect
         ensures { λ r. ⌜ r ≡ inForceOn self ⌝ }
     {

@@ -1,5 +1,4 @@
-// Presets, and the held preset value (document 01, "The axis", rule 6). Which value is refused and what offset a preset leaves is the crate
-// shift's.
+// Presets, and the held preset value (document 01, "The axis", rule 6). The crate axis_offset refuses values and works out the offset.
 ghost use Rattle.integer.specs.Base.{_≡_};
 ghost use Rattle.axis.specs.{Ready, preset, store};
 use crate::Axis;
@@ -11,7 +10,7 @@ use encoder::effect::Effect;
 use encoder::effect::InForce;
 
 impl Axis {
-    // The position becomes the value, or is moved by it where the preset is relative.
+    // An absolute preset sets the position to the value; a relative one adds the value.
     pub fn preset(self, value: i64, relative: bool) -> Next
         ensures { λ r. ⌜ r ≡ preset self value relative ⌝ }
     {
@@ -42,7 +41,7 @@ impl Axis {
                 axis.preset = value;
                 Next { axis, refusal: 0 }
             }
-            // never: the travel of an axis within its limits is within its own
+            // never: the shaft of an axis within its limits is within its own limits
             Reported::Refused(n) => Next { axis, refusal: n },
         }
     }

@@ -1,4 +1,4 @@
-// Start and reading (document 01, "The axis", rules 1 to 4). What a reading does to the place is the crate travel's.
+// Start and reading (document 01, "The axis", rules 1 to 4). The crate axis_shaft moves the place.
 ghost use Rattle.integer.specs.Base.{_≡_};
 ghost use Rattle.axis.specs.{refused, fresh, begunBy, start, startRaw, readRaw, read};
 use crate::Axis;
@@ -15,7 +15,7 @@ use sensor::Reading;
 use sensor::raw_number;
 
 impl Axis {
-    // From a first reading. What a refused start leaves gets 16 from every call.
+    // Starts an axis at a first reading. A refused start leaves a record that gets 16 from every call.
     pub fn start(plate: Nameplate, parameters: Parameters, step: Steps, turn: Turns) -> Next
         ensures { λ r. ⌜ r ≡ start plate parameters (step .0) (turn .0) ⌝ }
     {
@@ -28,7 +28,7 @@ impl Axis {
         }
     }
 
-    // From the raw number of a first reading.
+    // Starts an axis at the raw number of a first reading.
     pub fn start_raw(plate: Nameplate, parameters: Parameters, raw: u32) -> Next
         ensures { λ r. ⌜ r ≡ startRaw plate parameters raw ⌝ }
     {
@@ -38,7 +38,7 @@ impl Axis {
         }
     }
 
-    // By where the first reading leads: an axis there, or none and the number of the refusal.
+    // The axis at its first reading, or the record and the number of a refused start.
     fn begun(plate: Nameplate, parameters: Parameters, first: Moved) -> Next
         ensures { λ r. ⌜ r ≡ begunBy plate parameters first ⌝ }
     {
@@ -48,7 +48,7 @@ impl Axis {
         }
     }
 
-    // An axis without offset and presets, beside the number of the refusal.
+    // An axis without offset and presets, and the number of the refusal.
     fn fresh(nameplate: Nameplate, parameters: Parameters, shaft: Shaft, refusal: u8) -> Next
         ensures { λ r. ⌜ r ≡ refused (fresh nameplate parameters shaft) refusal ⌝ }
     {
@@ -63,7 +63,7 @@ impl Axis {
         Next { axis, refusal }
     }
 
-    // A new reading, of the step within the turn and the turns counted.
+    // A new reading, by step and turn.
     pub fn read(self, step: Steps, turn: Turns) -> Next
         ensures { λ r. ⌜ r ≡ read self (step .0) (turn .0) ⌝ }
     {

@@ -1,5 +1,4 @@
 -- A batch keeps the limits: it is readings one after the other.
--- Assumes nothing.
 use Rattle.integer.specs.Base.{List, [], _∷_, ℕ}
 use Rattle.axis.specs.{Axis, readRaw}
 use Rattle.axis.proofs.{Limits, by-number, raw-kept}

@@ -1,5 +1,4 @@
--- A batch of the axis is the batch of its travel: by the list of readings, each as if read singly. Then each way out.
--- Assumes nothing.
+-- A batch of the axis is the batch of its shaft. By induction on the readings, each as if read singly.
 pub use borrow.Author.Needs.{needs}
 use Rattle.integer.specs.Base.{_≡_, refl, sym, ap, _∙_, List, [], _∷_, ℕ, zero, suc, not, eqb, length, lt-ltb, w64, toZ, ofZ}
 use Rattle.integer.proofs.{reads}
@@ -21,7 +20,7 @@ module _ (a : Axis) (l : Limits a) (raw : ℕ) where
   kept : moveRefusal (rulesOn a) (lastOf a) raw ≡ 0 → Limits (atRaw a raw)
   kept e = at-raw-kept a l raw (read-refusal (rulesOn a) (a .shaft) (l .shaft) raw ∙ e)
 
-  -- what is in force stays so
+  -- what is in force stays the same
   rules-kept : rulesOn (atRaw a raw) ≡ rulesOn a
   unfolding rulesOn atRaw
   rules-kept = refl
@@ -72,7 +71,7 @@ positions-is a (raw ∷ s) l none =
     rw (read-here a raw s l none)
     (ap (λ (ps : List ℕ). positionOf (atRaw a raw) ∷ ps) (positions-is (atRaw a raw) s (kept-here a raw s l none) (none-later a raw s l none)))
 
--- ---- the ways out, by the answer of the travel's batch
+-- ---- the answer of the axis, by the answer of the shaft
 module _ (a : Axis) (f : InForce) (r : Ready a f) (s out : List ℕ) where
   limits-here : Limits a
   limits-here = limits-of a (r .stands)

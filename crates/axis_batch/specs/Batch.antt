@@ -1,5 +1,4 @@
 -- A batch, document 01's pass: each raw number as if read singly (rule 7).
--- Assumes nothing.
 use Rattle.integer.specs.Base.{not, List, [], _∷_, ℕ, eqb, length}
 use Rattle.encoder.specs.{wrongBuffer, when, _before_, answer}
 use Rattle.axis.specs.{Axis, Next, axisRefusal, positionOf, next, readRaw}

@@ -1,7 +1,6 @@
 -- Two wrong contracts of `read_in_place`, each refuted by the definition `read`, which the right one cites: that the record is left as it was, and
 -- that step and turn change places. One axis refutes both, that of document 01's listing: a reading of step 4 in turn 0 is taken and moves it, and
 -- step 0 in turn 4 is refused.
--- Assumes nothing.
 use Rattle.integer.specs.Base.{_≡_, refl, ap, ℕ, arith}
 use Rattle.integer.specs.{_modulo_}
 use Rattle.ring.specs.{inRange}

@@ -1,5 +1,5 @@
-// The reading that moves the record itself (document 01, "The axis", its last paragraph): the board's loop holds one axis record for the
-// whole shift, and lends it to each reading.
+// The reading that moves the record itself (document 01, "The axis", its last paragraph). The loop of a board holds one axis record and lends it
+// to each reading.
 ghost use Rattle.integer.specs.Base.{_≡_};
 ghost use Rattle.axis.specs.{read};
 use axis::Axis;

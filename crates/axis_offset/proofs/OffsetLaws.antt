@@ -1,5 +1,4 @@
--- Each way out of the two functions; a place on a ring of 32 bits fits, and so does its difference to a number of 32 bits.
--- Assumes nothing.
+-- The refusal and the new offset. A place on a ring of 32 bits fits its word, and so does its difference to a number of 32 bits.
 pub use borrow.Author.Needs.{needs}
 use Rattle.integer.specs.Base.{_≡_, refl, _∙_, Bool, true, false, not, ℕ, zero, suc, _≤_, _<_, _^_, arith, ℤ, pos, _+ℤ_, _-ℤ_, +ℤ-idl, w64, w32, Fits, SFits, toZ}
 use Rattle.integer.specs.Base.{ofZ}

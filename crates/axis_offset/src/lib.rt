@@ -1,4 +1,4 @@
-// Presets on numbers alone: which value is refused, and the offset that a preset leaves (document 01, "The axis", rule 6; rows 11 and 12).
+// Presets on numbers alone: which values are refused, and the new offset (document 01, "The axis", rule 6; rows 11 and 12).
 ghost use Rattle.integer.specs.Base.{_≡_};
 ghost use Rattle.axis_offset.specs.{valueRefusal, offsetBy};
 use encoder::effect::InForce;
@@ -6,7 +6,7 @@ use encoder::quantity::Units;
 use encoder::refusal;
 use ring::between;
 
-// The refusal of a preset or of a value to be held, 0 where it is taken.
+// The refusal of a preset value or of a held preset value, 0 where it is taken.
 pub fn value_refusal(rules: InForce, value: i64) -> u8
     ensures { λ r. ⌜ r ≡ valueRefusal rules value ⌝ }
 {
@@ -20,7 +20,7 @@ pub fn value_refusal(rules: InForce, value: i64) -> u8
     0
 }
 
-// The offset after a preset: the position that it asks for, less the unshifted one.
+// The offset after a preset: new position - unshifted position.
 pub fn offset_by(value: i64, relative: bool, position: Units, unshifted: Units, span: Units) -> i64
     ensures { λ r. ⌜ r ≡ offsetBy (span .0) (position .0) (unshifted .0) value relative ⌝ }
 {

@@ -1,6 +1,5 @@
--- The two walks of a batch, and each way out of it. Of the readings from the i-th on, the first walk keeps the refusal that is due and the
--- second what is still to be written: at the end of the list nothing is left.
--- Assumes nothing.
+-- The two walks of a batch. At the i-th reading the first walk keeps the refusal of the readings to come, and the second what is still to be
+-- written. At the end of the list nothing is left.
 use Rattle.integer.specs.Base.{_≡_, refl, sym, _∙_, Bool, true, false, not, _&&_, List, [], _∷_, _++_, append-assoc, append-nil, ℕ, zero, suc, _+_, _≤_, _<_}
 use Rattle.integer.specs.Base.{add-one, arith, ℤ, length, getD, take, drop, set, length-set, drop-of-length-le, drop-cons, take-all, eqb, eq-eqb, ne-eqb, eqb-true}
 use Rattle.integer.specs.Base.{not-false, w64, Fits, SFits, toZ, ofZ}
@@ -40,7 +39,7 @@ pub record Going (f : InForce) (offset : ℤ) (k₀ : Shaft) (s : List ℕ) (k :
   pub ends : after f k (drop i s) ≡ after f k₀ s
   pub writes : take i out ++ positionsIn f offset k (drop i s) ≡ positionsIn f offset k₀ s
 
--- every reading of a list that is not refused is one of the sensor's
+-- every reading of an accepted list is below C
 pub raws-lt : (f : InForce) (last : ℕ) (s : List ℕ) (i : ℕ) → refusalIn f last s ≡ 0 → i < length s → getD s i 0 < f .capacity .0
 unfolding refusalIn
 raws-lt f last [] i e h = absurd (omega arith)
@@ -129,7 +128,7 @@ module _ (f : InForce) (k : Shaft) (offset : ℤ) (s : List ℕ) (room : ℕ) (f
 
 pub ruleset numbers = (number-16, number-13, number-in, tested-sound, tested-last)
 
--- ---- what a batch that is taken asks of the second walk
+-- ---- an accepted batch: the limits hold, both lists have one length, and no reading is refused
 pub batch-taken : (f : InForce) (k : Shaft) (offset : ℤ) (s : List ℕ) (room : ℕ) → batchRefusal f k offset s room ≡ 0
     → Inside f k × (length s ≡ room) × (refusalIn f (k .last .0) s ≡ 0)
 unfolding batchRefusal

@@ -1,5 +1,4 @@
 -- The place: R × L and its products fit the machine's words, and each function gives what its definition says.
--- Assumes nothing.
 use Rattle.integer.specs.Base.{_≡_, refl, _∙_, ℕ, _-_, _*_, _/_, _%_, _^_, _≤_, _<_, arith, ℤ, pos, _+ℤ_, w64, w32, Fits, SFits, toZ, ofZ}
 use Rattle.integer.specs.{_modulo_}
 use Rattle.integer.proofs.{add-is, reads, modulo-lt, modulo-alike}

@@ -1,5 +1,4 @@
--- Raw numbers: each way out of orienting, of the difference, of the shorter way and of the approach; and that a move is at most C.
--- Assumes nothing.
+-- Raw numbers: the oriented number, the difference, and the move or its refusal. A move is at most C, so that every number fits its word.
 pub use borrow.Author.Needs.{needs}
 use Rattle.integer.specs.Base.{_≡_, refl, sym, _∙_, Bool, true, false, cond, ℕ, zero, suc, _+_, _-_, _*_, _^_, _≤_, _<_, arith, ltb, leb, ℤ, pos, negℤ, natAbs, _-ℤ_}
 use Rattle.integer.specs.Base.{lt-ltb, le-ltb, le-leb, lt-leb, leb-false, w64, SFits, toZ, ofZ, toZ-pos}
@@ -25,12 +24,12 @@ module _ (f : InForce) (raw : ℕ) where
   unfolding oriented
   oriented-off e = rw e
 
--- with its raw number it is 0 or C
+-- oriented number + raw number is 0 or C
 turned : (f : InForce) (raw : ℕ) → f .reversed ≡ true → raw < f .capacity .0 → (k : ℕ) × (oriented f raw + raw ≡ k * f .capacity .0)
 turned f zero e h = (0, omega (arith, oriented-none f 0 e refl, N.zero-mul (f .capacity .0)))
 turned f (suc n) e h = (1, omega (arith, oriented-on f (suc n) e (λ z. omega arith) h, N.one-mul (f .capacity .0)))
 
--- ---- 3. the difference: the numbers' own, or one range short of it
+-- ---- 3. the difference: to − from, or to − from + C
 module _ (c from to : ℕ) (from-lt : from < c) (to-lt : to < c) where
   pub apart-ahead : from ≤ to → to - from ≡ (pos to -ℤ pos from) modulo c
   apart-ahead h = sym (modulo-is _ 0 0 (omega arith) (omega (arith, diff-is (pos to) (pos from))))
@@ -122,7 +121,7 @@ module _ (f : InForce) (last raw : ℕ) where
   unfolding approachFrom
   approach-9 h = rw (← raw-9 h)
 
--- taken apart
+-- from the answer back to the number
 pub by-taken : (e : Approach) (z d : ℤ) (n : ℕ) → e ≡ By d → e ≡ answer Refused (By z) n → (n ≡ 0) × (d ≡ z)
 by-taken e z d zero t e-is = let h : By d ≡ By z = sym t ∙ e-is in (refl, cc)
 by-taken e z d (suc n) t e-is = let h : By d ≡ Refused (suc n) = sym t ∙ e-is in let w : _≡_ {A = ℕ} 0 1 = cc in absurd (omega arith)
@@ -131,7 +130,7 @@ pub by-refused : (e : Approach) (z : ℤ) (n j : ℕ) → e ≡ Refused j → e 
 by-refused e z zero j t e-is = let h : Refused j ≡ By z = sym t ∙ e-is in let w : _≡_ {A = ℕ} 0 1 = cc in absurd (omega arith)
 by-refused e z (suc n) j t e-is = let h : Refused j ≡ Refused (suc n) = sym t ∙ e-is in let w : suc n ≡ j = cc in (w, λ v. omega arith)
 
--- a reading that is taken is one of the sensor's
+-- an accepted reading is below C
 pub raw-lt : (f : InForce) (last raw : ℕ) → moveRefusal f last raw ≡ 0 → raw < f .capacity .0
 unfolding moveRefusal
 raw-lt f last raw h = leb-false _ _ (when-not (leb (f .capacity .0) raw) 8 (before-none (when (leb (f .capacity .0) raw) wrongTurn) _ h .0))

@@ -1,5 +1,4 @@
--- The limits as a test and as facts, and each way out of the public functions but the batch: a law a way.
--- Assumes nothing.
+-- The limits of a shaft, as a test and as facts. Then the answers of the public functions but the batch, by the tests before them.
 use Rattle.integer.specs.Base.{_≡_, refl, sym, _∙_, Bool, true, false, not, _&&_, ℕ, zero, suc, _%_, _≤_, _<_, arith, ltb, leb, ℤ, not-true, not-false, lt-ltb}
 use Rattle.integer.specs.Base.{ltb-true, le-leb, lt-leb, w64, SFits, toZ, ofZ}
 use Rattle.integer.proofs.{reads, modulo-lt}
@@ -135,7 +134,7 @@ module _ (f : InForce) (k : Shaft) (raw : ℕ) (e : Approach) (e-is : e ≡ appr
 
 pub ruleset moves = (moved-inside, moved-lt, moved-by, moved-to, moved-no)
 
--- ---- the answers taken apart
+-- ---- from the answers back to the numbers
 pub to-taken : (e : Moved) (k m : Shaft) (n : ℕ) → e ≡ To m → e ≡ answer NotMoved (To k) n → (n ≡ 0) × (m ≡ k)
 to-taken e k m zero t e-is = let h : To m ≡ To k = sym t ∙ e-is in (refl, cc)
 to-taken e k m (suc n) t e-is = let h : To m ≡ NotMoved (suc n) = sym t ∙ e-is in let z : _≡_ {A = ℕ} 0 1 = cc in absurd (omega arith)

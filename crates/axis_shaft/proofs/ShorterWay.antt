@@ -1,6 +1,5 @@
 -- The move of a reading that is taken is document 01's d (rule 3): −C/2 < d < C/2, and d is the difference of the oriented numbers up to a
 -- multiple of C. Ahead by less than half the range, or back by what is left of it.
--- Assumes nothing.
 use Rattle.integer.specs.Base.{_≡_, refl, Bool, true, false, ℕ, suc, _-_, _*_, _<_, arith, eqb, ltb, leb, ℤ, pos, negsuc, natAbs, _-ℤ_, eqb-false, ltb-true}
 use Rattle.integer.specs.Base.{ltb-false}
 use Rattle.integer.specs.{_modulo_}
@@ -29,7 +28,7 @@ shorter-way f last raw s e =
     let z = before-none (when (leb c raw) wrongTurn) (when (eqb (2 * n) c) halfRange) e .1 in
     by-half n c (ltb (2 * n) c) refl (difference-lt f last raw s) (eqb-false _ _ (when-not (eqb (2 * n) c) 9 z))
 
--- and no other number is: a move of less than half the range that is the difference modulo C is the one that is found
+-- no other number is: a move below half the range that equals the difference modulo C is this move
 only : (m : ℤ) (c : ℕ) → 2 * natAbs m < c → shorter (m modulo c) c ≡ m
 only (pos a) c h =
     let e : pos a modulo c ≡ a = modulo-is (pos a) 0 0 (omega arith) (omega arith) in

@@ -1,5 +1,4 @@
 -- A batch, document 01's pass: a list of raw numbers, and a list of positions of the same length, each as if read singly (rule 7).
--- Assumes nothing.
 use Rattle.integer.specs.Base.{not, _&&_, List, [], _∷_, ℕ, eqb, ℤ, length}
 use Rattle.ring.specs.{inRange}
 use Rattle.encoder.specs.{InForce, wrongBuffer, noAxis, when, _before_, answer}
@@ -11,7 +10,7 @@ unfoldable pub refusalIn : InForce → ℕ → List ℕ → ℕ
 refusalIn f last [] = 0
 refusalIn f last (raw ∷ raws) = moveRefusal f last raw before refusalIn f raw raws
 
--- where the readings lead
+-- the shaft after the readings
 unfoldable pub after : InForce → Shaft → List ℕ → Shaft
 after f k [] = k
 after f k (raw ∷ raws) = after f (movedTo f k raw) raws

@@ -1,5 +1,4 @@
--- Where the shaft stands, its place and its last reading, under what is in force (document 01, "The axis", rules 1 to 5; rows 9, 10 and 16).
--- Assumes nothing.
+-- The shaft: its place and its last reading (document 01, "The axis", rules 1 to 5; rows 9, 10 and 16).
 use Rattle.integer.specs.Base.{Bool, cond, not, _&&_, ℕ, _-_, _*_, _/_, _%_, _^_, _<_, eqb, ltb, leb, ℤ, pos, negℤ, _+ℤ_, _-ℤ_}
 use Rattle.integer.specs.{_modulo_}
 use Rattle.encoder.specs.{InForce, wrongTurn, halfRange, noAxis, when, _before_, answer, rulesFit, Sound}
@@ -7,7 +6,7 @@ use Rattle.axis_shaft.specs.{declared.Shaft.Shaft, declared.Moved.Moved,
 use Rattle.axis_shaft.specs.{declared.Approach.Approach, declared.Approach.the-variants.By, declared.Approach.the-variants.Refused as NotApproached}
 use Rattle.axis_shaft.specs.{declared.Reported.Reported, declared.Reported.the-variants.At, declared.Reported.the-variants.Refused}
 
--- R × L: so many steps are a whole number of turns, and as positions a whole number of total ranges
+-- R × L, steps × range. After so many steps place and position repeat: they are L turns, and M total ranges
 abbrev pub period : InForce → ℕ
 period f = f .steps .0 * f .span .0
 
@@ -21,7 +20,7 @@ pub record Inside (f : InForce) (k : Shaft) : Type 0 where
   pub place : k .place .0 < period f
   pub last : k .last .0 < f .capacity .0
 
--- before a first reading: the last one is no number of any sensor
+-- before a first reading; no sensor has such a last reading
 abbrev pub nowhere : Shaft
 nowhere = record { place = record { 0 = 0 }; last = record { 0 = 2 ^ 64 - 1 } }
 
@@ -57,7 +56,7 @@ moveRefusal f last raw = when (leb (f .capacity .0) raw) wrongTurn before halfRe
 unfoldable pub approachFrom : InForce → ℕ → ℕ → Approach
 approachFrom f last raw = answer NotApproached (By (moveOf f last raw)) (moveRefusal f last raw)
 
--- 3, 4. where the reading then stands
+-- 3, 4. the shaft after the reading
 unfoldable pub movedTo : InForce → Shaft → ℕ → Shaft
 movedTo f k raw = record { place = record { 0 = (pos (k .place .0) +ℤ moveOf f (k .last .0) raw) modulo period f }; last = record { 0 = raw } }
 

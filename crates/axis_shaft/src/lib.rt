@@ -1,5 +1,5 @@
-// Where the shaft stands under what is in force, and how readings move it (document 01, "The axis", rules 1 to 5 and 7). This crate alone
-// knows how the place is kept, and alone turns steps into units of position.
+// The shaft: its place and its last reading, and how readings move it (document 01, "The axis", rules 1 to 5 and 7). Only this crate knows how
+// the place is kept, and only this crate turns places into positions.
 mod place;
 mod raw;
 
@@ -39,13 +39,13 @@ pub enum Reported {
 }
 
 impl Shaft {
-    // Before a first reading: outside its limits, whatever is in force.
+    // Before a first reading. Such a shaft is outside its limits, whatever is in force.
     pub const NOWHERE: Shaft = Shaft {
         place: Steps(0),
         last: Steps(0xffff_ffff_ffff_ffff),
     };
 
-    // At a first reading.
+    // The shaft at its first reading.
     pub fn begin(rules: InForce, raw: u32) -> Moved
         ensures { λ r. ⌜ r ≡ begun rules raw ⌝ }
     {
@@ -61,7 +61,7 @@ impl Shaft {
         Moved::To(Shaft { place, last })
     }
 
-    // Within its limits.
+    // The shaft is within its limits.
     pub fn inside(self, rules: InForce) -> bool
         ensures { λ r. ⌜ r ≡ inside rules self ⌝ }
     {
@@ -71,7 +71,7 @@ impl Shaft {
         (self.place.0 < period(rules)) & (self.last.0 < rules.capacity.0)
     }
 
-    // How far a new reading lies from the last, the shorter way.
+    // The move of a new reading: the shorter way from the last one.
     pub fn approach(self, rules: InForce, raw: u32) -> Approach
         ensures { λ r. ⌜ r ≡ approached rules self raw ⌝ }
     {
@@ -81,7 +81,7 @@ impl Shaft {
         approach(rules, self.last, raw)
     }
 
-    // A new reading.
+    // The shaft after a new reading.
     pub fn moved(self, rules: InForce, raw: u32) -> Moved
         ensures { λ r. ⌜ r ≡ moved rules self raw ⌝ }
     {
@@ -104,7 +104,7 @@ impl Shaft {
         }
     }
 
-    // New readings one after the other, with the position at each: all of them, or none.
+    // New readings one after the other, with the position at each. All are taken, or none.
     pub fn batch(self, rules: InForce, offset: i64, raws: &[u32], positions: &mut [u32]) -> Moved
         ensures { λ r. ⌜ (r ≡ batched rules self offset (now (raws .entry)) (now (positions .entry)))
             × (now (positions .exit) ≡ batchedList rules self offset (now (raws .entry)) (now (positions .entry))) ⌝ }

@@ -1,4 +1,4 @@
-// The place, kept modulo R x L, and the position that it stands for (document 01, "The axis", rules 3 to 5 and 7).
+// The place, kept modulo R x L, and its position (document 01, "The axis", rules 3 to 5 and 7).
 ghost use Rattle.integer.specs.Base.{_≡_, _<_, length};
 ghost use Rattle.encoder.specs.{Sound};
 ghost use Rattle.axis_shaft.specs.{period, Inside, moveOf, movedTo, unshifted, positionAt, refusalIn, after, positionsIn};
@@ -8,7 +8,7 @@ use encoder::effect::InForce;
 use encoder::quantity::Steps;
 use encoder::quantity::Units;
 
-// How many places there are: R x L.
+// R x L. After so many steps place and position repeat.
 pub(crate) fn period(rules: InForce) -> u64
     requires { ⌜ Sound rules ⌝ }
     ensures { λ r. ⌜ (r ≡ period rules) × (0 < r) ⌝ }
@@ -17,7 +17,7 @@ pub(crate) fn period(rules: InForce) -> u64
 }
 
 impl Shaft {
-    // At a new reading that is taken, which makes the move d.
+    // The shaft after an accepted reading that moves it by d.
     pub(crate) fn advanced(self, rules: InForce, raw: u32, d: i64) -> Shaft
         requires { ⌜ Inside rules self × (raw < rules .capacity .0) × (d ≡ moveOf rules (self .last .0) raw) ⌝ }
         ensures { λ r. ⌜ r ≡ movedTo rules self raw ⌝ }
@@ -47,7 +47,7 @@ impl Shaft {
         ring::add(unshifted.0 as u64, offset, rules.span.0 as u64) as u32
     }
 
-    // New readings that are taken, and the position at each.
+    // The shaft after accepted readings, with the position at each.
     pub(crate) fn follow(
         self,
         rules: InForce,

@@ -1,4 +1,4 @@
-// Raw numbers of the sensor, which begin again at 0 after C (document 01, "The axis", rules 1 and 3).
+// Raw numbers of the sensor. They begin again at 0 after C (document 01, "The axis", rules 1 and 3).
 ghost use Rattle.integer.specs.Base.{_≡_, _≤_, _<_, _^_, pos, _-ℤ_};
 ghost use Rattle.integer.specs.{_modulo_};
 ghost use Rattle.encoder.specs.{Sound};
@@ -24,7 +24,7 @@ pub(crate) fn oriented(rules: InForce, raw: Steps) -> Steps
     raw
 }
 
-// The difference of two readings modulo C, in the direction in force: counter-clockwise it is that of the two exchanged.
+// The difference of two readings: (new - last) modulo C; counter-clockwise (last - new) modulo C.
 fn difference(rules: InForce, last: Steps, raw: Steps) -> Steps
     requires { ⌜ Sound rules × (last .0 < rules .capacity .0) × (raw .0 < rules .capacity .0) ⌝ }
     ensures { λ r. ⌜ (r .0 ≡ difference rules (last .0) (raw .0)) × (r .0 < rules .capacity .0) ⌝ }
@@ -35,7 +35,7 @@ fn difference(rules: InForce, last: Steps, raw: Steps) -> Steps
     apart(rules.capacity, last, raw)
 }
 
-// How far one number of the sensor lies ahead of another.
+// (to - from) modulo C.
 fn apart(capacity: Steps, from: Steps, to: Steps) -> Steps
     requires { ⌜ (from .0 < capacity .0) × (to .0 < capacity .0) ⌝ }
     ensures { λ r. ⌜ (r .0 ≡ (pos (to .0) -ℤ pos (from .0)) modulo capacity .0) × (r .0 < capacity .0) ⌝ }
@@ -46,7 +46,7 @@ fn apart(capacity: Steps, from: Steps, to: Steps) -> Steps
     Steps(to.0 + (capacity.0 - from.0))
 }
 
-// A difference taken the shorter way: ahead above 0, back below.
+// The shorter way: n steps ahead, or C - n steps back as a negative number.
 fn shorter(n: Steps, capacity: Steps) -> i64
     requires { ⌜ (n .0 < capacity .0) × (capacity .0 ≤ 2 ^ 31) ⌝ }
     ensures { λ r. ⌜ r ≡ shorter (n .0) (capacity .0) ⌝ }
@@ -57,7 +57,7 @@ fn shorter(n: Steps, capacity: Steps) -> i64
     n.0 as i64 - capacity.0 as i64
 }
 
-// The refusal of a difference that leads as far ahead as back, 0 of any other.
+// The refusal of a difference of exactly C / 2, 0 of any other.
 fn half_range(n: Steps, capacity: Steps) -> u8
     requires { ⌜ n .0 < 2 ^ 31 ⌝ }
     ensures { λ r. ⌜ r ≡ halfRefusal (n .0) (capacity .0) ⌝ }
@@ -65,7 +65,7 @@ fn half_range(n: Steps, capacity: Steps) -> u8
     when(2 * n.0 == capacity.0, refusal::HALF_RANGE)
 }
 
-// The move that a new reading makes, or its refusal.
+// The move of a new reading, or its refusal.
 pub(crate) fn approach(rules: InForce, last: Steps, raw: u32) -> Approach
     requires { ⌜ Sound rules × (last .0 < rules .capacity .0) ⌝ }
     ensures { λ r. ⌜ r ≡ approachFrom rules (last .0) raw ⌝ }
@@ -82,7 +82,7 @@ pub(crate) fn approach(rules: InForce, last: Steps, raw: u32) -> Approach
     Approach::By(shorter(n, rules.capacity))
 }
 
-// The move of a new reading that is taken.
+// The move of an accepted reading.
 pub(crate) fn move_to(rules: InForce, last: Steps, raw: u32) -> i64
     requires { ⌜ Sound rules × (last .0 < rules .capacity .0) × (raw < rules .capacity .0) ⌝ }
     ensures { λ r. ⌜ r ≡ moveOf rules (last .0) raw ⌝ }

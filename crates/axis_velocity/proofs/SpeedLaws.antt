@@ -1,5 +1,4 @@
--- Each way out of a velocity, by the answers of the calls on that way.
--- Assumes nothing.
+-- The answer of a velocity: the first refusal in the table's order, or the rate of the move.
 use Rattle.integer.specs.Base.{_≡_, sym, ℕ, _^_, _≤_, _<_, arith, ℤ, natAbs, eq-eqb, ne-eqb, w64, w32, toZ, ofZ}
 use Rattle.integer.proofs.{reads}
 use Rattle.encoder.specs.{InForce}

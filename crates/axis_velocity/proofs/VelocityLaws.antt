@@ -1,5 +1,4 @@
--- Velocity: products and quotient fit the machine's words by the sizes of their factors; then each way out.
--- Assumes nothing.
+-- The rate of a move. Products and quotient fit their words, since their factors are small.
 pub use borrow.Author.Needs.{needs}
 use Rattle.integer.specs.Base.{_≡_, _∙_, true, false, ℕ, _*_, _^_, _≤_, _<_, arith, ℤ, pos, negsuc, natAbs, _*ℤ_, ltZ, quotZ, _≤ℤ_, eq-eqb, ne-eqb, w64, w32, Fits}
 use Rattle.integer.specs.Base.{SFits, toZ, ofZ, toZ-pos}

@@ -1,5 +1,4 @@
 -- Velocity (document 01, "Velocity"; row 14).
--- Assumes nothing.
 use Rattle.integer.specs.Base.{cond, ℕ, _*_, eqb, ℤ, pos, negsuc, _*ℤ_, quotZ}
 use Rattle.integer.specs.{clamp}
 use Rattle.encoder.specs.{InForce, nothingElapsed, when, _before_, answer}

@@ -74,7 +74,7 @@ fn factor(rules: InForce) -> u64
     60000
 }
 
-// The number of 32 bits with a sign that is nearest to q.
+// q, limited to signed 32 bits.
 fn limited(q: i64) -> i32
     ensures { λ r. ⌜ r ≡ clamp least greatest q ⌝ }
 {

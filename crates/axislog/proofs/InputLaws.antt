@@ -1,5 +1,4 @@
 -- The octets that were read stand within their buffer.
--- Assumes nothing.
 pub use borrow.Author.Needs.{needs}
 use Rattle.integer.specs.Base.{_≡_, sym, List, ℕ, _≤_, arith, length, take, drop, length-take-le, putMid, same-len-mid}
 use Rattle.axislog.specs.{declared.Input.Input, Read, Within}

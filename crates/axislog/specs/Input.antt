@@ -1,5 +1,4 @@
 -- What reading standard input leaves.
--- Assumes nothing.
 use Rattle.integer.specs.Base.{ℕ, List}
 use Rattle.axislog.specs.{declared.Input.Input, declared.Input.the-variants.Read, declared.Input.the-variants.Failed}
 use Rattle.io.{specs.Counts.Counts}

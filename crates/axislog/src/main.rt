@@ -13,7 +13,7 @@ pub enum Input {
     Failed,
 }
 
-// The buffer for the log holds more than the longest log, so that one too long is seen to be.
+// The buffer holds more than the longest log, so that the program notices a longer one.
 fn main() {
     let mut input = io::large_buffer();
     let read = fill(&mut input);
@@ -43,7 +43,7 @@ fn fill(buffer: &mut [u8]) -> Input
     Input::Read(n)
 }
 
-// The buffer is lent as a whole array first, whose length is then known by its type.
+// The whole array is lent first: its type tells its length.
 fn print(input: &[u8], output: &mut [u8; OUTPUT]) {
     emit(input, output);
 }
@@ -62,7 +62,7 @@ fn write(text: &[u8]) {
     }
 }
 
-// A program has no exit status to tell of it.
+// A program has no exit status that could tell.
 fn complain(message: &[u8]) {
     io::write_all(STDERR_FILENO, message);
 }

@@ -1,6 +1,5 @@
--- A state of a log beside its book: a started axis stands where the library's own run stands, beside the same ledger, and all that the accuracy
--- theorem says of that run from here on goes with it. So what the table takes shows a position that agrees; what it refuses changes nothing.
--- Assumes nothing.
+-- A state of a log beside its book: a started axis is a state of the library's own run, beside the same ledger, and the accuracy theorem holds of that
+-- run from here on. So an accepted line shows a position that agrees, and a refused line changes nothing.
 use Rattle.integer.specs.Base.{_≡_, refl, List, [], ℕ, zero, suc, ℤ}
 use Rattle.encoder.specs.{answer}
 use Rattle.axis_shaft.specs.{Reported, At as Found, declared.Reported.the-variants.Refused as Outside}
@@ -33,7 +32,7 @@ Beside s none = s .stage ≡ NoAxis
 Beside s (waiting d) = (s .stage ≡ Waiting) × (deviceOf (s .axis) ≡ d)
 Beside s (kept d l) = (s .stage ≡ Started) × Going d l (s .axis)
 
--- what is to be shown of a line that is due x, by its reply r
+-- what is to be proved of a line with the due answer x, by its reply r
 abbrev pub Done : Due → Book → ℤ → Reply → Type 0
 Done x b m r = let after = booked x b m (r .answer) in Meets x after (r .answer) × Beside (r .state) after
 

@@ -1,6 +1,5 @@
--- A reading and a preset on a started axis. The axis is within its limits and its last raw number is the ledger's, so that it refuses a call by the
--- table's number; where the call is taken, the library's run makes the same call and goes on beside the ledger after it.
--- Assumes nothing.
+-- A reading and a preset on a started axis. The axis is within its limits and its last raw number is the ledger's, so that a call answers the table's
+-- number. Where the table takes the call, the library's run makes the same call and goes on beside the ledger after it.
 use Rattle.integer.specs.Base.{_≡_, refl, ap, _∙_, Bool, true, false, not, List, [], _∷_, ℕ, ℤ}
 use Rattle.integer.specs.{_modulo_}
 use Rattle.encoder.specs.{noAxis, when, _before_, answer}

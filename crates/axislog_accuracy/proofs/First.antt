@@ -1,5 +1,4 @@
 -- The first reading of an axis that waits: where the table takes it, it is a start of the library's run.
--- Assumes nothing.
 use Rattle.integer.specs.Base.{_≡_, refl, ℕ, ℤ}
 use Rattle.axis_shaft.specs.{nowhere, started}
 use Rattle.axis.specs.{Axis, fresh, startRaw}

@@ -1,6 +1,5 @@
 -- Worthless log programs break the claim, each on three lines of document 01's listing: where a position is due, none is printed, or no whole number
 -- of ranges brings it within a unit of the exact one, or after a preset it is not the one that rule 6 gives.
--- Assumes nothing.
 use Rattle.integer.specs.Base.{_≡_, refl, List, [], _∷_, ℕ, arith, pos}
 use Rattle.integer.specs.{_modulo_}
 use Rattle.ring.specs.{inRange}

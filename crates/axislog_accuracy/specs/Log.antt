@@ -1,18 +1,17 @@
 -- THE CLAIM for a log (document 01, "The program axislog" and "The distance rule"): whatever the lines are, each is answered as the table says, every
 -- position that is printed is less than one unit away from the exact one, and each preset puts the position where rule 6 says.
 --
--- Beside the log goes a book. It is told the lines, the true steps m and what is printed, and nothing else of the program. It keeps what the last axis
--- form taken has set up and, from the first reading taken after it, the ledger of the distance rule; of what is printed it notes the position just
--- after a preset. Table and book settle what each line is due, outright but for the position itself: an axis form that is taken (axis ready), a read
--- or a preset that is taken (at n), and any other line (refused n) with the table's number. So a refusal in place of a position breaks the claim, and
--- so does a position in place of a refusal.
+-- A book is kept beside the log. It gets the lines, the true steps m and what is printed, and nothing else of the program. It keeps what the last
+-- accepted axis form has set up and, from the first accepted reading after it, the ledger of the distance rule; of what is printed it notes the position
+-- just after a preset. Table and book settle the answer to each line, all but the position itself: (axis ready) to an accepted axis form, (at n) to an
+-- accepted read or preset, and (refused n) with the table's number to any other line. So a refusal in place of a position breaks the claim, and so does
+-- a position in place of a refusal.
 --
--- Supposed is, as in the distance rule, of each raw number that is taken after the first: the shaft has truly moved by m steps since the one before,
--- by less than half the sensor's range either way, and the sensor shows where it came to.
+-- It supposes, as the distance rule does, of each raw number taken after the first: the shaft has truly moved by m steps since the one before, by less
+-- than half the sensor's range either way, and the sensor shows where it came to.
 --
 -- The claim is of any log program, and sees only its answer to each line. Printed.antt in proofs/ proves it of axislog; Worthless.antt
 -- there refutes it of a program that refuses every line, of one that always shows 0, and of one that ignores presets.
--- Assumes nothing.
 use Rattle.integer.specs.Base.{_≡_, false, List, [], _∷_, ℕ, ℤ}
 use Rattle.integer.specs.{_modulo_}
 use Rattle.encoder.specs.{noForm, noAxis, answer, refusalOn}

@@ -1,6 +1,5 @@
 -- Log programs that document 01 would send back ("Programs we would send back"), each as axislog but for what it prints. Each breaks the claim:
 -- proofs/Worthless.antt.
--- Assumes nothing.
 use Rattle.integer.specs.Base.{ℕ, List}
 use Rattle.integer.specs.{ascii}
 use Rattle.encoder.specs.{noForm}

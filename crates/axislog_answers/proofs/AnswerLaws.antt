@@ -1,5 +1,4 @@
--- Each way out of the answers: the texts of a line are copied one behind the other, the digits being the number's, and the sixteen octets hold them.
--- Assumes nothing.
+-- The line of each answer: word, digits and end are copied one after the other, and sixteen octets hold them.
 pub use borrow.Author.Needs.{needs}
 use Rattle.integer.specs.Base.{_≡_, sym, ap, _∙_, List, _++_, ℕ, _+_, _-_, _≤_, arith, length, take, drop, replicate, length-append, putMid, w8, w32, w64, Fits}
 use Rattle.integer.specs.{ascii}

@@ -1,5 +1,4 @@
--- The fewest decimal digits that hold a number are its text, and how many those are. By taking off the last digit.
--- Assumes nothing.
+-- The shortest decimal of a number is its text, and its length. By induction: take off the last digit.
 use Rattle.integer.specs.Base.{_≡_, Bool, true, false, cond, [], _∷_, _++_, ℕ, zero, suc, _+_, _/_, _%_, _^_, _≤_, _<_, arith, ltb, length, length-append, lt-ltb}
 use Rattle.integer.specs.Base.{le-ltb, w32, Fits}
 use Rattle.axislog_answers.specs.{decimalBelow, decimal}

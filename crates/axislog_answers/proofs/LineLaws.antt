@@ -1,5 +1,4 @@
--- The line of an answer, for whoever copies it: its text stands at the start of its octets.
--- Assumes nothing.
+-- The text of an answer stands at the start of its line.
 use Rattle.integer.specs.Base.{_≡_, refl, sym, ap, _∙_, _≤_, arith, length, take, length-append, take-at}
 use Rattle.axislog_answers.specs.{Answer, Line, text, held, line}
 

@@ -1,5 +1,4 @@
 -- The answers, one a line (document 01, "The program axislog").
--- Assumes nothing.
 use Rattle.integer.specs.Base.{ℕ, zero, suc, _+_, _/_, _%_, List, [], _∷_, _++_, cond, ltb, length, replicate}
 use Rattle.integer.specs.{ascii, over}
 use Rattle.axislog_answers.specs.{declared.Answer.Answer, declared.Answer.the-variants.Ready, declared.Answer.the-variants.At}

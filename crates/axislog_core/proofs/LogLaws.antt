@@ -1,5 +1,4 @@
--- The lines of a log, one after another: what is written, and what the rest will answer, make up the answers to all.
--- Assumes nothing.
+-- The loop over the lines of a log: what is written and the answers to come make up all answers.
 pub use borrow.Author.Needs.{needs}
 use Rattle.integer.specs.Base.{_≡_, refl, sym, ap, _∙_, List, [], _∷_, _++_, append-assoc, append-nil, Bool, true, false, cond, ℕ, suc, _+_, _-_, _≤_, _<_, arith}
 use Rattle.integer.specs.Base.{eqb, length, take, drop, length-drop, length-append, drop-of-length-le, drop-drop, take-length, putMid, w64, Fits}

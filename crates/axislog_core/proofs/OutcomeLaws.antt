@@ -1,5 +1,4 @@
--- What a call that is taken has shown of its two lengths, and that the count of the answers is within the buffer.
--- Assumes nothing.
+-- What an accepted call tells of its two lengths, and that the answers fit into the buffer.
 use Rattle.integer.specs.Base.{_≡_, refl, sym, _∙_, List, not, ℕ, zero, suc, _≤_, arith, length, take, length-take-le, eqb, ltb, ltb-false, eqb-true}
 use Rattle.encoder.specs.{noForm, wrongBuffer, when, answer}
 use Rattle.encoder.proofs.{before-none, when-not, when-none}

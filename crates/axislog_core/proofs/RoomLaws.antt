@@ -1,5 +1,4 @@
 -- The buffer always suffices: no line has more than thirteen octets of answer for each octet that it costs.
--- Assumes nothing.
 use Rattle.integer.specs.Base.{_≡_, refl, List, [], _∷_, Bool, true, false, cond, ℕ, suc, _+_, _*_, _-_, _≤_, arith, eqb, length, length-append}
 use Rattle.axislog_forms.specs.{Nothing, form}
 use Rattle.axislog_forms.proofs.{form-empty, form-one}

@@ -1,5 +1,4 @@
 -- The answers to a log, one a line (document 01, "The program axislog").
--- Assumes nothing.
 use Rattle.integer.specs.Base.{ℕ, List, [], _∷_, _++_, cond, not, eqb, ltb, length}
 use Rattle.integer.specs.{over}
 use Rattle.encoder.specs.{noForm, wrongBuffer, when, _before_, answer}

@@ -14,7 +14,7 @@ use encoder::refusal::when;
 // The octets of the longest log that is answered.
 pub const INPUT: usize = 60_000;
 
-// The octets of the lent buffer. An empty line costs one octet and is answered with thirteen, and no line has more for each of its octets.
+// The octets of the lent buffer. An empty line takes one octet and its answer thirteen; no line has a longer answer for each of its octets.
 pub const OUTPUT: usize = 780_000;
 
 pub enum Outcome {
@@ -23,7 +23,7 @@ pub enum Outcome {
     Refused(u8),
 }
 
-// A refused call leaves the buffer as it was, and so does an accepted one what lies behind the answers.
+// Answers a whole log. A refused call does not touch the buffer; an accepted one does not touch what lies behind the answers.
 pub fn answer(input: &[u8], output: &mut [u8]) -> Outcome
     ensures { λ r. ⌜ (r ≡ outcome (now (input .entry)) (now (output .entry)))
         × (now (output .exit) ≡ written (now (input .entry)) (now (output .entry))) ⌝ }

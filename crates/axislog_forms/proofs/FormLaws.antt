@@ -1,5 +1,4 @@
--- The forms, one law for each way out: its premises are the words and numbers that the way has found, or not found.
--- Assumes nothing.
+-- Each form, by the words and numbers that were found or not found.
 pub use borrow.Author.Needs.{needs}
 use Rattle.integer.specs.Base.{_≡_, List, Bool, true, false, ℕ, _-ℤ_, drop, w32, w64, Fits, SFits, toZ, ofZ, toZ-pos, arith, eq-eqb, ne-eqb}
 use Rattle.integer.specs.{ascii}

@@ -1,5 +1,4 @@
 -- A line of no octet or of one is no form: each form begins with a word of more.
--- Assumes nothing.
 use Rattle.integer.specs.Base.{_≡_, refl, [], _∷_, ℕ}
 use Rattle.axislog_lexer.specs.{past, labelled}
 use Rattle.axislog_lexer.proofs.{past-one}

@@ -1,18 +1,17 @@
 -- The forms of a line (document 01, "The program axislog"), as they are found in it from left to right. How each is written stands in
 -- crates/axislog_grammar/specs/Grammar.antt, where it is proved that just these lines are forms.
--- Assumes nothing.
 use Rattle.integer.specs.Base.{ℕ, List, Bool, true, false, cond, eqb, pos, _-ℤ_, drop}
 use Rattle.integer.specs.{ascii}
 use Rattle.axislog_lexer.specs.{Decimal, declared.number.Decimal.the-variants.Number, Nothing as NoNumber, Place, At, Nowhere, past, ends, labelled, last}
 use Rattle.axislog_forms.specs.declared.Form.{Form}
 use Rattle.axislog_forms.specs.declared.Form.the-variants.{Axis, Read, Preset, Nothing}
 
--- how a form goes on from the position after a word, or else
+-- after a word the form continues at the position behind it; without the word it is another
 abbrev pub from : Place → (ℕ → Form) → Form → Form
 from (At p) then other = then p
 from Nowhere then other = other
 
--- and with a number and the position after it; without a number there is no form
+-- after a number it continues with the number and the position behind it; without one there is no form
 abbrev pub with : Decimal → (ℕ → ℕ → Form) → Form
 with (Number n p) then = then n p
 with NoNumber then = Nothing

@@ -27,7 +27,7 @@ pub enum Form {
     Nothing,
 }
 
-// The form that a line is, without its newline.
+// The form of a line without its newline.
 pub fn parse(line: &[u8]) -> Form
     ensures { λ r. ⌜ r ≡ form (now (line .entry)) ⌝ }
 {

@@ -1,5 +1,4 @@
--- Decimals, digit by digit: a further digit stands behind those that are there, and a digit's octet is told by its value.
--- Assumes nothing.
+-- Decimals, digit by digit: a further digit is appended, and its value determines its octet.
 use Rattle.integer.specs.Base.{_≡_, refl, [], _∷_, _++_, Bool, true, false, cond, ℕ, zero, suc, _+_, _*_, _/_, _%_, _^_, _≤_, _<_, arith, ltb, lt-ltb, le-ltb}
 use Rattle.integer.specs.Base.{ltb-false}
 use Rattle.axislog_lexer.specs.{digitOf}

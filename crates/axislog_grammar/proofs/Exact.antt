@@ -1,5 +1,4 @@
 -- A line is read as a form just if it is that form as written.
--- Assumes nothing.
 use Rattle.axislog_grammar.specs.{Exact}
 use Rattle.axislog_grammar.proofs.{ReadsBack.reads-back, ReadsOnly.reads-only}
 

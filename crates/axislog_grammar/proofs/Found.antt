@@ -1,6 +1,4 @@
--- What each reader of words and numbers has found: it goes on from one front of the line to a longer one, and what it adds is the word or the number.
--- One law a reader, over any front.
--- Assumes nothing.
+-- What each reader of words and numbers has found: it extends a front of the line by the word or the number. One law a reader, over any front.
 use Rattle.integer.specs.Base.{_≡_, refl, _∙_, List, [], _∷_, _++_, append-assoc, append-nil, true, false≢true, ℕ, _+_, _*_, _≤_, arith, ltb, eqb, length, drop}
 use Rattle.integer.specs.Base.{length-append, drop-of-length-le, drop-at, ltb-false, eqb-true, eqb-false}
 use Rattle.axislog_lexer.specs.{Decimal, declared.number.Decimal.the-variants.Number, Nothing as NoNumber, Place, At, Nowhere, past, isAt, ends, digitOf, digits}

@@ -1,6 +1,5 @@
--- A form as written is read as that form. Each reader is followed from a position p behind which the line goes on as stated, drop p line ≡ w ++ s, to
--- the position behind what it has read, where the line goes on as s: so no law names what stands before.
--- Assumes nothing.
+-- A form as written is read as that form. Each law starts at a position p where the line continues as w ++ s and ends behind w, where it continues as s.
+-- So no law names what stands before p.
 use Rattle.integer.specs.Base.{_≡_, refl, sym, ap, _∙_, Bool, true, false, cond, List, [], _∷_, _++_, append-assoc, append-nil, ℕ, zero, suc, _+_, _/_, _%_, _^_}
 use Rattle.integer.specs.Base.{_≤_, _<_, arith, ltb, eqb, ℤ, pos, negsuc, +ℤ-idl, length, drop, length-append, length-drop, drop-drop, lt-ltb, le-ltb, eq-eqb}
 use Rattle.integer.specs.Base.{ne-eqb, ltb-true, ltb-false, eqb-true}
@@ -69,7 +68,7 @@ module _ (line : List ℕ) where
   unfolding ends
   ends-at w p e h = rw (e, rw append-nil at (past-word w [] p)) (eq-eqb (p + length w) (length line) (omega (arith, length-drop p line, ap length e)))
 
-  -- an octet below 48 behind a number is none of its digits
+  -- an octet below 48 behind a number is no digit
   module _ (n x : ℕ) (s : List ℕ) (p : ℕ) (m : n ≤ 4294967295) (h : x < 48) where
     number-at : drop p line ≡ decimal n ++ (x ∷ s) → (q : ℕ) × (number p (drop p line) ≡ Number n q) × (drop q line ≡ x ∷ s)
     unfolding decimal digits

@@ -1,5 +1,4 @@
--- A line that is read as a form is that form as written. A form's law puts those of its readers one behind the other.
--- Assumes nothing.
+-- A line that is read as a form is that form as written. The law of a form chains the laws of its readers.
 use Rattle.integer.specs.Base.{_≡_, refl, _∙_, List, [], _++_, append-assoc, append-nil, Bool, true, false, cond, ℕ, zero, suc, _≤_, arith, eqb, pos, negsuc, _-ℤ_}
 use Rattle.integer.specs.Base.{+ℤ-idl, ne-eqb}
 use Rattle.integer.specs.{ascii}

@@ -1,6 +1,5 @@
 -- How each form is written (document 01, "The program axislog"): one nested bracket form a line, single spaces, decimal without leading zeros, at
 -- most 4294967295 in size; inner forms in the order shown; the scale form may be missing.
--- Assumes nothing.
 use Rattle.integer.specs.Base.{_≡_, Bool, true, false, List, [], _++_, ℕ, suc, _≤_, ℤ, pos, negsuc, natAbs}
 use Rattle.integer.specs.{ascii}
 use Rattle.axislog_forms.specs.{Setup, Form, Axis, Read, Preset, Nothing, form}

@@ -1,5 +1,4 @@
--- A number at a position of a line: one step of `digits` for each way through the loop, and one law for each way out of the other readers.
--- Assumes nothing.
+-- A number at a position of a line. The loop takes one step of `digits` at each digit.
 pub use borrow.Author.Needs.{needs}
 use Rattle.integer.specs.Base.{_≡_, List, Bool, true, false, ℕ, _+_, _-_, _*_, _≤_, _<_, add-one, length, getD, drop, drop-of-length-le, drop-cons, lt-ltb, le-ltb}
 use Rattle.integer.specs.Base.{eq-eqb, ne-eqb}

@@ -1,5 +1,4 @@
--- A word at a position of a line: one step of `past`, where both lists go on, for each way through the loop; and the end of a line.
--- Assumes nothing.
+-- A word at a position of a line, and the end of a line. The loop takes one step of `past` at each octet.
 use Rattle.integer.specs.Base.{_≡_, refl, List, [], _∷_, Bool, true, false, cond, ℕ, _+_, _≤_, _<_, add-one, eqb, length, getD, drop, drop-of-length-le, drop-cons}
 use Rattle.integer.specs.Base.{eq-eqb, ne-eqb}
 use Rattle.axislog_lexer.specs.{Place, At, Nowhere, past, ends}

@@ -1,14 +1,13 @@
 -- Decimal numbers: no leading zero, at most 4294967295 (document 01, "The program axislog").
--- Assumes nothing.
 use Rattle.integer.specs.Base.{ℕ, _+_, _*_, _-_, List, [], _∷_, cond, ltb, eqb, drop}
 use Rattle.axislog_lexer.specs.{declared.number.Decimal.Decimal, declared.number.Decimal.the-variants.Number, declared.number.Decimal.the-variants.Nothing}
 use Rattle.axislog_lexer.specs.{declared.word.Place.Place, declared.word.Place.the-variants.At, declared.word.Place.the-variants.Nowhere, Word.past, Word.ends}
 
--- the value of a digit, and 10 of any other octet
+-- the value of a digit; 10 for any other octet
 unfoldable pub digitOf : ℕ → ℕ
 digitOf octet = cond (ltb octet 48) 10 (cond (ltb 57 octet) 10 (octet - 48))
 
--- digits from position p on, behind digits of the value n: what follows a 0 is no digit of its number
+-- digits from position p on; the digits before them have the value n. No digit follows a leading 0
 unfoldable pub digits : ℕ → ℕ → List ℕ → Decimal
 digits n p [] = Number n p
 digits n p (x ∷ xs) =

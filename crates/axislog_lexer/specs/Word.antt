@@ -1,5 +1,4 @@
 -- Words in a line (document 01, "The program axislog"). Positions are counted from 0.
--- Assumes nothing.
 use Rattle.integer.specs.Base.{ℕ, _+_, List, [], _∷_, Bool, false, cond, eqb, length, drop}
 use Rattle.axislog_lexer.specs.{declared.word.Place.Place, declared.word.Place.the-variants.At, declared.word.Place.the-variants.Nowhere}
 

@@ -21,7 +21,7 @@ pub fn labelled(line: &[u8], at: usize, word: &[u8]) -> Decimal
     }
 }
 
-// The number with which the line ends, but for a word behind it.
+// The number in front of the word that ends the line.
 pub fn last(line: &[u8], at: usize, word: &[u8]) -> Decimal
     ensures { λ r. ⌜ r ≡ last (now (word .entry)) at (now (line .entry)) ⌝ }
 {
@@ -49,7 +49,7 @@ fn number(line: &[u8], at: usize) -> Decimal
     digits(line, d, at + 1)
 }
 
-// The digits from `at` on, behind digits of the value `value`. A 0 is the last digit of its number.
+// The digits from `at` on; the digits before them have the value `value`. No digit follows a leading 0.
 fn digits(line: &[u8], value: u64, at: usize) -> Decimal
     requires { ⌜ (value ≤ 4294967295) × (at ≤ length (now line)) ⌝ }
     ensures { λ r. ⌜ r ≡ digits value at (drop at (now (line .entry))) ⌝ }
@@ -73,7 +73,7 @@ fn digits(line: &[u8], value: u64, at: usize) -> Decimal
     Decimal::Number(n as u32, k)
 }
 
-// The value of a digit, and 10 of any other octet.
+// The value of a digit; 10 for any other octet.
 fn digit(octet: u8) -> u64
     ensures { λ r. ⌜ r ≡ digitOf octet ⌝ }
 {

@@ -1,6 +1,5 @@
 -- The axis of a log stays within its limits: after any lines a started axis is acceptable, so that a call on it never gets 16, and a call that is
 -- taken is answered with the position. Call by call, by the laws of axis.
--- Assumes nothing.
 use Rattle.integer.specs.Base.{_≡_, refl, List, [], _∷_, true, false, ℕ, zero, suc, arith, ℤ}
 use Rattle.encoder.specs.{answer, refusalOn}
 use Rattle.axis.specs.{Axis, Next, acceptable, axisRefusal, positionOf, reported, startRaw, readRaw, preset as presetOn}

@@ -1,5 +1,4 @@
--- What a form does to the axis of a log, one law for each way out.
--- Assumes nothing.
+-- What each form does to the axis of a log.
 pub use borrow.Author.Needs.{needs}
 use Rattle.integer.specs.Base.{_≡_, sym, ap, _∙_, Bool, true, false, ℕ, _+_, _*_, ℤ, arith, w8, w64, Fits, SFits, toZ, ofZ, boolByte}
 use Rattle.integer.specs.{at}

@@ -1,5 +1,4 @@
 -- The axis of a log, and what a form does to it (document 01, "The program axislog").
--- Assumes nothing.
 use Rattle.integer.specs.Base.{ℕ, _+_, false, true, ℤ}
 use Rattle.integer.specs.{at}
 use Rattle.encoder.specs.{Nameplate, Parameters, Class2, noForm, noAxis, answer, plainPlate, refusalOn}
@@ -35,11 +34,11 @@ position (Outside n) = Refused n
 unfoldable pub positionAnswer : Axis → Answer
 positionAnswer a = position (reported a)
 
--- (refused n) shows the number, and the axis is as it was
+-- (refused n) shows the number; the axis stays as it was
 abbrev pub refused : State → ℕ → Reply
 refused s n = record { state = s; answer = Refused n }
 
--- a call that is taken leaves a started axis, and shows its position
+-- an accepted call leaves a started axis and shows its position
 abbrev pub taken : Axis → Reply
 taken a = record { state = record { stage = Started; axis = a }; answer = positionAnswer a }
 
@@ -47,7 +46,7 @@ taken a = record { state = record { stage = Started; axis = a }; answer = positi
 unfoldable pub after : State → Next → Reply
 after s x = answer (refused s) (taken (x .axis)) (x .refusal)
 
--- an accepted axis form awaits its first reading; a refused one keeps the former axis
+-- after an accepted axis form the axis waits for its first reading; a refused one keeps the former axis
 abbrev pub ready : Setup → Reply
 ready f = record { state = unstarted Waiting f; answer = Ready }
 
@@ -72,7 +71,7 @@ presetAt Started s v = after s (presetOn (s .axis) v false)
 unfoldable pub preset : State → ℤ → Reply
 preset s v = presetAt (s .stage) s v
 
--- form 15 precedes all
+-- 15 comes before all others
 unfoldable pub reply : State → Form → Reply
 reply s (AxisForm f) = setUp s f
 reply s (Read raw) = read s raw

@@ -16,7 +16,7 @@ use encoder::refusal;
 pub enum Stage {
     // no axis form was accepted yet
     NoAxis,
-    // one was, and its first accepted reading is to come
+    // an axis form was accepted, but no reading yet
     Waiting,
     Started,
 }
@@ -107,7 +107,7 @@ impl State {
         }
     }
 
-    // After a call on the axis.
+    // The reply after a call on the axis.
     fn after(self, next: Next) -> Reply
         ensures { λ r. ⌜ r ≡ after self next ⌝ }
     {
@@ -167,7 +167,7 @@ fn position_answer(axis: Axis) -> Answer
 {
     match axis.position() {
         Reported::At { position, .. } => Answer::At(position.0),
-        // never: a call that is taken leaves the axis within its limits
+        // never: an accepted call leaves the axis within its limits
         Reported::Refused(n) => Answer::Refused(n),
     }
 }

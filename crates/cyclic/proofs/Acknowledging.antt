@@ -1,6 +1,5 @@
--- Acknowledging (document 01, "One cycle", its last paragraph): a held error is gone by the second of two cycles, if bit 15 is 1 in the first
--- and 0 in the second, STW2_ENC bit 10 is 1 in both and the second is not faulty. The link alone decides it, by what the crate link shows.
--- Assumes nothing.
+-- Acknowledging (document 01, "One cycle", its last paragraph): a held error is gone after the second of two cycles, if bit 15 is 1 in the first
+-- and 0 in the second, STW2_ENC bit 10 is 1 in both and the second is not faulty. The link alone decides it (crate cyclic_link).
 use Rattle.integer.specs.Base.{_≡_, refl, _∙_, true, false, List, ℕ, zero, suc, arith}
 use Rattle.integer.specs.{bit}
 use Rattle.axis.specs.{Axis, rulesOn}
@@ -34,7 +33,7 @@ acknowledging a b k raw₁ raw₂ out₁ out₂ in₁ in₂ c d c-is d-is class�
     let link₁ : c .link ≡ link (rulesOn a) k (faultyAt a raw₁) (stw out₁) = rw (c-are, class₁, on₁) in
     rw (d-are, class₂, on₂, sound, link₁) (gone (rulesOn a) k (faultyAt a raw₁) (stw out₁) (stw out₂) up down)
 
--- with nothing between them the second cycle's axis is the one that the first leaves, and of the same class
+-- with nothing between the two, the second cycle gets the axis of the first, and it has the same class
 pub at-once : (a : Axis) (k : Link) (raw : ℕ) (output input : List ℕ) → cycle a k raw output input .refusal ≡ 0 → class4 (a .parameters) ≡ true
     → class4 (cycle a k raw output input .axis .parameters) ≡ true
 at-once a k raw output input e class = rw (cycle-is a k raw output input e, after-same a k raw output .1) class

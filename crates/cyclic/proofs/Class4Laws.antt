@@ -1,5 +1,4 @@
--- The words of class 4, each way out.
--- Assumes nothing.
+-- The words of class 4: control words out of the output octets, and the input octets.
 use Rattle.integer.specs.Base.{_≡_, ap, _∙_, Bool, true, false, List, ℕ, _%_, _^_, arith, take, drop}
 use Rattle.integer.specs.{bit, bigEndian}
 use Rattle.integer.proofs.{Octets.Octets, bigEndian-part}

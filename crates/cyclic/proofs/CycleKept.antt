@@ -1,6 +1,5 @@
--- Through a cycle an axis keeps nameplate and parameters, and so what is in force; and within its limits it stays: a cycle is a reading, and a
--- preset of a value that was tested, or held within them.
--- Assumes nothing.
+-- A cycle keeps nameplate and parameters, and so what is in force. It keeps the axis within its limits, since it is a reading and a preset whose value
+-- was tested, or held within them.
 use Rattle.integer.specs.Base.{_≡_, refl, _∙_, Bool, true, false, cond, List, ℕ, zero, suc, _<_, ℤ, natAbs}
 use Rattle.encoder.specs.{InForce}
 use Rattle.axis.specs.{Axis, Next, rulesOn, Ready, next, atRaw, readRaw, readRawRefusal, presetted}
@@ -10,7 +9,7 @@ use Rattle.cyclic_link.proofs.{possible}
 use Rattle.cyclic.specs.{faultyAt, takenAt, presetBy, wordOf, Class2.axis as axis2, counted, Class4.axis as axis4, class4, wordBy, cycleRefusal, axisAfter}
 use Rattle.cyclic.specs.{cycled, cycle}
 
--- ---- the axis that a cycle leaves, by the preset that it makes: of either class alike
+-- ---- the axis after a cycle: with its preset, if one is made; the same for both classes
 after-by : (class : Bool) (b : Axis) (k : Link) (faulty : Bool) (output : List ℕ)
     → cond class (axis4 b k faulty (counted output)) (axis2 b k faulty (wordOf output))
     ≡ presetBy b (reaction class (rulesOn b) k faulty (wordBy class output) (b .stored) .preset)

@@ -1,6 +1,5 @@
--- One cycle on an axis within its limits: its number is that of the two lengths, and what it leaves of axis, link and input is what the calls ensure,
--- one after the other.
--- Assumes nothing.
+-- One cycle on an axis within its limits. The two lengths decide whether it is refused; axis, link and input are what the calls yield, one after the
+-- other.
 pub use borrow.Author.Needs.{needs}
 use Rattle.integer.specs.Base.{_≡_, refl, sym, ap, _∙_, Bool, true, false, cond, not, List, ℕ, _%_, _^_, _<_, arith, eqb, ℤ, natAbs, length, eqb-true, w64, toZ, ofZ}
 use Rattle.integer.specs.{bigEndian, octets}
@@ -55,7 +54,7 @@ pub input-two : (class : Bool) (k : Link) (w : ℕ) (b : Standing) (l i : List �
 unfolding Class2.input
 input-two class k w b l i t b-is long l-is = l-is ∙ rw (long, t, at-position b b-is)
 
--- ---- a cycle that is run: x is the answer to its raw number, w its word, q what it makes of it, and b the axis that it leaves and where that stands
+-- ---- an accepted cycle: x is the answer to the raw number, w the control word, q the reaction, and b the axis after it with its positions
 module _ (a : Axis) (f : InForce) (r : Ready a f) (k : Link) (raw : ℕ) (output : List ℕ) (g : Fields) (g-is : g ≡ fieldsOf (a .parameters)) (x : Next) (x-is : x ≡ readRaw a raw) (w : ℕ) (w-is : w ≡ wordBy (g .class4) output)
     (q : Reaction) (q-is : q ≡ reaction (g .class4) f k (not (eqb (x .refusal) 0)) w (toZ w64 (ofZ w64 (x .axis .stored)))) where
   at : Ready (x .axis) f

@@ -1,6 +1,4 @@
--- The raw number and the preset of a cycle, each way out: the laws of the axis, whose limits are tested once, before. A preset that is made is one
--- that nothing refuses, and the position after it is the one that it asks for.
--- Assumes nothing.
+-- The raw number and the preset of a cycle. Nothing refuses a preset that is made, and the position after it is the one that it asks for.
 use Rattle.integer.specs.Base.{_≡_, refl, ap, true, false, not, ℕ, _<_, arith, ℤ, pos, natAbs, _+ℤ_, _-ℤ_, nonNeg, T, not-false, not-true, w64, w32, Fits, SFits}
 use Rattle.integer.specs.Base.{toZ, ofZ, toZ-pos}
 use Rattle.integer.proofs.{signed, add-is, diff-is, reads, fits-abs}
@@ -39,7 +37,7 @@ module _ (a : Axis) (f : InForce) (r : Ready a f) (q : Reported) (q-is : q ≡ r
       limits : Limits a
       limits = limits-of a (r .stands)
 
-      -- the position that is asked for, and the offset by it
+      -- the position that the preset asks for, and the new offset
       abbrev to : ℕ
       to = asked a (o .value) (o .relative)
 
@@ -62,7 +60,7 @@ module _ (a : Axis) (f : InForce) (r : Ready a f) (q : Reported) (q-is : q ≡ r
       offset-fits : SFits w64 z
       offset-fits = rw offset-is (fits-abs _ (omega (arith, apart-lt to (unshiftedOf a) (f .span .0) to-lt from-lt, r .shaft .sound .span-most)))
 
-      -- the sum of both is it again
+      -- unshifted position + new offset is this position
       abbrev sum : ℤ
       sum = toZ w64 (v .0) +ℤ toZ w64 (ofZ w64 z)
 

@@ -1,5 +1,4 @@
 -- The cycle of class 2: 4 octets out, 4 in (document 01, "One cycle", its second paragraph).
--- Assumes nothing.
 use Rattle.integer.specs.Base.{ℕ, Bool, List}
 use Rattle.integer.specs.{bigEndian, octets}
 use Rattle.axis.specs.{Axis, rulesOn, positionOf}
@@ -10,7 +9,7 @@ use Rattle.cyclic.specs.Preset.{presetBy}
 abbrev pub wordOf : List ℕ → ℕ
 wordOf output = bigEndian output
 
--- the axis with the raw number taken: with the preset, if one is made
+-- the axis after the raw number, with the preset if one is made
 unfoldable pub axis : Axis → Link → Bool → ℕ → Axis
 axis a k faulty word = presetBy a (preset (rulesOn a) k faulty word)
 

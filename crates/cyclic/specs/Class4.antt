@@ -1,6 +1,5 @@
 -- The cycle of class 4, telegram 81: out STW2_ENC and G1_STW, in ZSW2_ENC, G1_ZSW, G1_XIST1 and G1_XIST2 (document 01, "One cycle", from its
 -- third paragraph on).
--- Assumes nothing.
 use Rattle.integer.specs.Base.{ℕ, Bool, cond, List, _++_}
 use Rattle.integer.specs.{bit, part, bigEndian, octets}
 use Rattle.encoder.specs.{fieldsOf}
@@ -19,7 +18,7 @@ stw output = bigEndian (part 3 4 output)
 unfoldable pub counted : List ℕ → ℕ
 counted output = cond (bit 10 (stw2 output)) (stw output) 0
 
--- ---- the axis with the raw number taken: with the preset of the held preset value, relative by bit 11, if one is made
+-- ---- the axis after the raw number, with the preset of the held preset value, relative by bit 11, if one is made
 unfoldable pub axis : Axis → Link → Bool → ℕ → Axis
 axis a k faulty word = presetBy a (preset (rulesOn a) k faulty word (a .stored))
 

@@ -1,6 +1,5 @@
 -- One cycle, put together from its parts (document 01, "One cycle"; rows 13 and 16): an axis runs the cycle of the class that its parameters
 -- came from.
--- Assumes nothing.
 use Rattle.integer.specs.Base.{ℕ, Bool, cond, not, _&&_, List, eqb, length}
 use Rattle.encoder.specs.{Parameters, InForce, wrongBuffer, when, _before_, answer, fieldsOf}
 use Rattle.axis.specs.{Axis, rulesOn, axisRefusal}

@@ -1,11 +1,10 @@
--- The preset that a cycle makes, and where the axis then stands (document 01, "One cycle").
--- Assumes nothing.
+-- The preset of a cycle, and the positions of the axis after it (document 01, "One cycle").
 use Rattle.integer.specs.Base.{cond}
 use Rattle.axis.specs.{Axis, unshiftedOf, positionOf, presetted}
 use Rattle.cyclic_link.specs.{Preset}
 use Rattle.cyclic.specs.declared.standing.Standing.{Standing}
 
--- the axis with the raw number taken: with the preset, if one is made
+-- the axis after the raw number, with the preset if one is made
 abbrev pub presetBy : Axis → Preset → Axis
 presetBy a o = cond (o .made) (presetted a (o .value) (o .relative)) a
 

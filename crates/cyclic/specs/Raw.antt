@@ -1,5 +1,4 @@
 -- The raw number that a cycle takes first (document 01, "One cycle", its first paragraph).
--- Assumes nothing.
 use Rattle.integer.specs.Base.{ℕ, Bool, not, eqb}
 use Rattle.axis.specs.{Axis, readRaw}
 

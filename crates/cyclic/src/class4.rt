@@ -11,12 +11,12 @@ use octets::bit;
 use octets::number;
 use octets::put_number;
 
-// The bit of STW2_ENC without which G1_STW counts as 0.
+// A bit of STW2_ENC. While it is 0, G1_STW counts as 0.
 const CONTROLLED: u32 = 10;
 
 const ZSW2: u32 = 0x0200;
 
-// The bit of the block's first octet under which a preset does not touch G1_XIST1.
+// A bit of the block's first octet. While it is 1, G1_XIST1 shows the unshifted position.
 const UNSHIFTED: u32 = 2;
 
 // G1_STW as counted.

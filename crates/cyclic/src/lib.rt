@@ -44,7 +44,7 @@ pub fn cycle(axis: Axis, link: Link, raw: u32, output: &[u8], input: &mut [u8]) 
     }
 }
 
-// The same, of an axis within its limits.
+// One cycle of an axis within its limits.
 fn run(axis: Axis, link: Link, rules: InForce, raw: u32, output: &[u8], input: &mut [u8]) -> Cycled
     requires { ⌜ Ready axis rules ⌝ }
     ensures { λ r. ⌜ (r ≡ cycle axis link raw (now (output .entry)) (now (input .entry)))
@@ -80,7 +80,7 @@ fn input_octets(class4: bool) -> usize
     if class4 { 12 } else { 4 }
 }
 
-// The same, with buffers of the lengths of the class.
+// One cycle with buffers of the right lengths.
 fn exchange(
     fields: Fields,
     axis: Axis,
@@ -122,7 +122,7 @@ fn word_of(class4: bool, output: &[u8]) -> u32
     number(output)
 }
 
-// The input, by the class: that of class 2 is the position.
+// Fills the input. Class 2 shows the position alone.
 fn fill(fields: Fields, after: Standing, link: Link, word: u32, input: &mut [u8])
     requires { ⌜ (fields ≡ fieldsOf (after .axis .parameters)) × (after ≡ standing (after .axis)) × (length (now input) ≡ inputOctets (fields .class4)) ⌝ }
     ensures { λ _. ⌜ now (input .exit) ≡ inputBy (fields .class4) link word (after .axis) ⌝ }

@@ -1,4 +1,4 @@
-// What a cycle does to an axis within its limits, under what is in force: the raw number, the preset, and where the axis then stands.
+// What a cycle does to an axis within its limits: it takes the raw number, makes the preset and works out both positions.
 ghost use Rattle.integer.specs.Base.{_≡_};
 ghost use Rattle.axis.specs.{Ready, readRaw};
 ghost use Rattle.cyclic_link.specs.{Possible};
@@ -19,7 +19,7 @@ pub(crate) struct Standing {
     pub unshifted: Units,
 }
 
-// The axis at the raw number, or as it was beside the number of the refusal.
+// The axis at the raw number, or the same axis and the number of the refusal.
 pub(crate) fn take(axis: Axis, rules: InForce, raw: u32) -> Next
     requires { ⌜ Ready axis rules ⌝ }
     ensures { λ r. ⌜ (r ≡ readRaw axis raw) × Ready (r .axis) rules ⌝ }
@@ -38,7 +38,7 @@ pub(crate) fn take(axis: Axis, rules: InForce, raw: u32) -> Next
     }
 }
 
-// The axis with the preset, if one is made. The position is scaled once: after a preset it is the unshifted one and the new offset.
+// Makes the preset, if there is one. The position is scaled once: after a preset it is unshifted position + new offset.
 pub(crate) fn preset(axis: Axis, rules: InForce, asked: Preset) -> Standing
     requires { ⌜ Ready axis rules × Possible rules asked ⌝ }
     ensures { λ r. ⌜ r ≡ standing (presetBy axis asked) ⌝ }

@@ -1,6 +1,5 @@
 -- Acknowledging, by the link alone (document 01, "One cycle", its last paragraph): bit 15 is 1 in one cycle and 0 in the next, which is not
--- faulty. By whether the first leaves an error held: one that is held under bit 15 is seen to be acknowledged.
--- Assumes nothing.
+-- faulty. By cases: an error that the first cycle leaves is acknowledged by its bit 15, and the second cycle clears it.
 use Rattle.integer.specs.Base.{_≡_, refl, Bool, true, false, and-true, ℕ}
 use Rattle.encoder.specs.{InForce}
 use Rattle.cyclic_link.specs.{Link, acknowledges, held, Class4.link}

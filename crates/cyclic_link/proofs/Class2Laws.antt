@@ -1,5 +1,4 @@
--- Class 2: what a cycle makes of its word, and what a preset that is made tells. The value is a mask, which is a remainder.
--- Assumes nothing.
+-- Class 2: the next link and the preset. The value is a mask of 31 bits, which is a remainder.
 pub use borrow.Author.Needs.{needs}
 use Rattle.integer.specs.Base.{_≡_, Bool, true, false, not, _&&_, ℕ, _^_, _<_, arith, ltb, bitAnd, and-mask, ltb-true, w64, toZ, toZ-pos}
 use Rattle.integer.specs.{bit}

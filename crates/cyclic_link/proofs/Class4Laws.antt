@@ -1,5 +1,4 @@
--- Class 4: what a cycle makes of its word, what a preset that is made tells, and the status word. The bits of the status word do not overlap, so that their or is their sum.
--- Assumes nothing.
+-- Class 4: the next link, the preset and the status word. The bits of the status word do not overlap, so that `or` is a sum.
 use Rattle.integer.specs.Base.{_≡_, _∙_, Bool, true, not, _&&_, _||_, ℕ, _+_, _*_, _/_, _%_, _^_, _<_, arith, ℤ, w64, SFits, toZ, ofZ, boolByte}
 use Rattle.integer.specs.{bit}
 use Rattle.integer.proofs.{reads, flag-lt, at-is}

@@ -1,5 +1,4 @@
--- The preset that a cycle makes, of either class, is one that nothing refuses: class 2 has tested its value, and class 4 holds one within the limits.
--- Assumes nothing.
+-- Nothing refuses a preset that a cycle makes: class 2 tests its value, and class 4 takes the held value, which is within the limits.
 use Rattle.integer.specs.Base.{Bool, true, false, ℕ, _<_, ℤ, natAbs}
 use Rattle.encoder.specs.{InForce}
 use Rattle.cyclic_link.specs.{Link, Classes.reaction, Possible}

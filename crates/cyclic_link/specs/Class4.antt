@@ -1,5 +1,4 @@
--- What a cycle of class 4 makes of G1_STW, as counted, and G1_ZSW (document 01, "One cycle", its table and what stands below it).
--- Assumes nothing.
+-- What a cycle of class 4 makes of G1_STW, as counted, and G1_ZSW (document 01, "One cycle", the table and the text below it).
 use Rattle.integer.specs.Base.{ℕ, _+_, Bool, cond, not, _&&_, _||_, ℤ}
 use Rattle.integer.specs.{bit, at}
 use Rattle.encoder.specs.{InForce}
@@ -53,7 +52,7 @@ link f k faulty word =
       executed = executed f k faulty word;
     }
 
--- the preset, of the held preset value, and both
+-- the preset, of the held preset value; then link and preset together
 abbrev pub preset : InForce → Link → Bool → ℕ → ℤ → Preset
 preset f k faulty word stored = record { made = made f k faulty word; value = stored; relative = relative word }
 

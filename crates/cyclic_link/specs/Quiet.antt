@@ -1,5 +1,4 @@
 -- The link record at the start (document 01, "One cycle", its first paragraph).
--- Assumes nothing.
 use Rattle.integer.specs.Base.{false}
 use Rattle.cyclic_link.specs.declared.Link.{Link}
 

@@ -11,7 +11,7 @@ const ASKED: u32 = 31;
 
 const VALUE: u32 = 0x7fff_ffff;
 
-// The value that a preset is asked for.
+// The value of the preset.
 fn value(word: u32) -> u32
     ensures { λ r. ⌜ (r ≡ Class2.value word) × (r < 2 ^ 31) ⌝ }
 {

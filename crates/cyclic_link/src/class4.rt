@@ -16,7 +16,7 @@ const PRESET: u32 = 12;
 
 const RELATIVE: u32 = 11;
 
-// An error is held: one that was, or that of a faulty cycle which is not parked, until it is acknowledged.
+// Whether an error is held. A faulty cycle that is not parked holds one, and it stays until it is acknowledged.
 fn held(link: Link, faulty: bool, parked: bool, acknowledges: bool) -> bool
     ensures { λ r. ⌜ r ≡ Class4.heldBy link faulty parked acknowledges ⌝ }
 {

@@ -33,7 +33,7 @@ pub struct Reaction {
     pub preset: Preset,
 }
 
-// By the class of the axis; a preset of class 4 is one of the held preset value.
+// The cycle of either class. A preset of class 4 takes the held preset value.
 pub fn react(
     class4: bool,
     link: Link,

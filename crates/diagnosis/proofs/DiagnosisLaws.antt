@@ -1,5 +1,4 @@
--- The four parts of the diagnosis one behind the other; and what its number tells.
--- Assumes nothing.
+-- The four parts of the diagnosis, one behind the other, fill the buffer. A number of 0 tells that its length is right.
 use Rattle.integer.specs.Base.{_≡_, refl, sym, _∙_, true, List, _++_, ℕ, length, eqb-true, putMid, postOf}
 use Rattle.integer.specs.{octets}
 use Rattle.integer.proofs.{four-parts}

@@ -1,5 +1,4 @@
 -- Every row of the table of combinations is what the definitions put in force: one list, one claim, computed.
--- Assumes nothing.
 use Rattle.integer.specs.Base.{_≡_, refl, map}
 use Rattle.encoder.specs.{plateRefusal, fieldsRefusal, refusalOn, rulesOf, inForce, Combination, plate, combinations}
 

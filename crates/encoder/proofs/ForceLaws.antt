@@ -1,12 +1,11 @@
--- What is in force, with scaling on and off, and what the callees ask of a plate whose parameters are taken; and the answer taken apart.
--- Assumes nothing.
+-- What is in force, with scaling on and off. Accepted parameters have a plate within its limits, as the callees require.
 use Rattle.integer.specs.Base.{_≡_, refl, sym, _∙_, Bool, true, false, ℕ, zero, suc, arith, w32, Fits}
 use Rattle.encoder.specs.{Steps, Nameplate, Parameters, Fields, InForce, Effect, Taken, Refused, answer, plateRefusal, capacityOf, classOn, scalingOn}
 use Rattle.encoder.specs.{reversedBy, fieldsOf, refusalOn, rulesOf, inForce}
 use Rattle.encoder.proofs.{RefusalLaws.exits, RefusalLaws.before-none, PlateLaws.plated}
 
 module _ (n : Nameplate) (p : Parameters) where
-  -- parameters that are taken have a plate that is not refused, and so has each way on
+  -- accepted parameters have an accepted plate
   module _ (k : ℕ) (none : k ≡ 0) (k-is : k ≡ refusalOn n p) where
     pub force-plate : plateRefusal n ≡ 0
     unfolding refusalOn
@@ -28,7 +27,7 @@ module _ (n : Nameplate) (p : Parameters) where
     unfolding rulesOf
     force-off t = rw (← f-is, ← s-is, t, ← c-is, v-is, a-is)
 
--- ---- the answer taken apart
+-- ---- from the answer back to the number
 pub effect-taken : (k : ℕ) (g f : InForce) → answer Refused (Taken g) k ≡ Taken f → (k ≡ 0) × (f ≡ g)
 effect-taken zero g f e = (refl, cc)
 effect-taken (suc k) g f e = let z : _≡_ {A = ℕ} 0 1 = cc in absurd (omega arith)

@@ -1,5 +1,4 @@
 -- What holds of a nameplate that is not refused: its bounds, one by one, and that its capacity fits.
--- Assumes nothing.
 pub use borrow.Author.Needs.{needs}
 use Rattle.integer.specs.Base.{_≡_, refl, Bool, true, false, _&&_, false≢true, ℕ, _*_, _^_, _≤_, arith, leb-true, w64, w32, Fits}
 use Rattle.encoder.specs.{Nameplate, plateRefusal, capacityOf}

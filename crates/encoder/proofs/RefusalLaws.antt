@@ -1,5 +1,4 @@
--- An answer and a kept buffer by the number of the refusal, and what a number that is 0 tells of its tests.
--- Assumes nothing.
+-- The general laws of refusals: an answer or a kept buffer by its number, and what a number of 0 tells of the tests.
 use Rattle.integer.specs.Base.{ℕ, zero, suc, _≡_, refl, sym, _∙_, Bool, true, false, not, arith, not-false}
 use Rattle.encoder.specs.{when, _before_, answer}
 
@@ -31,7 +30,7 @@ pub before-again : (n k : ℕ) (f : ℕ → ℕ) → (n before f (n before k)) �
 before-again zero k f = refl
 before-again (suc n) k f = refl
 
--- the same, refusal by refusal: k precedes m, or is none; and a test before m has failed, or is passed
+-- the same, refusal by refusal: the first number k refuses, or is 0; the first test refuses, or is passed
 module _ {A : Type 0} (refused : ℕ → A) (taken x : A) where
   module _ (n m k : ℕ) (k-is : k ≡ n) where
     pub first-no : (k ≡ 0 → ⊥) → x ≡ refused k → x ≡ answer refused taken (n before m)
@@ -49,7 +48,7 @@ module _ {A : Type 0} (refused : ℕ → A) (taken x : A) where
 
 pub ruleset stepwise = (first-no, first-yes, test-no, test-yes)
 
--- and of a call that answers the number itself, or keeps what it has either way
+-- a call that answers the number itself, and a buffer that is kept in both cases
 pub number-is : (n : ℕ) → n ≡ answer (λ (k : ℕ). k) 0 n
 number-is zero = refl
 number-is (suc n) = refl

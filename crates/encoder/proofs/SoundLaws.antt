@@ -1,5 +1,4 @@
--- What parameters that are taken put in force is within the limits: M and L by rows 4 and 5 with scaling on, and by the nameplate without.
--- Assumes nothing.
+-- Accepted parameters put rules within the limits in force: M and L by rows 4 and 5 with scaling on, and by the nameplate without.
 use Rattle.integer.specs.Base.{_≡_, refl, Bool, true, false, _||_, true≢false, _*_, _^_, _≤_, arith, leb-true, le-leb, ltb-false, eqb-false}
 use Rattle.encoder.specs.{Nameplate, Parameters, Fields, InForce, reservedBit, revolutionUnits, totalRange, when, plateRefusal, capacityOf, scalingOn}
 use Rattle.encoder.specs.{reservedWrong, fieldsOf, unitsWrong, rangeWrong, fieldsRefusal, refusalOn, scaleOf, spanOf, rulesOf, rulesFit, Sound}
@@ -42,7 +41,7 @@ fits-of f s =
       le-leb _ _ (s .span-most),
     )
 
--- ---- rows 4 and 5, of parameters that are taken
+-- ---- rows 4 and 5, of accepted parameters
 or-split : (a b : Bool) → (a || b) ≡ false → (a ≡ false) × (b ≡ false)
 or-split false b e = (refl, e)
 or-split true b e = absurd (true≢false e)

@@ -1,5 +1,4 @@
 -- What plate and parameters put in force (document 01, end of "Class 4 block").
--- Assumes nothing.
 use Rattle.integer.specs.Base.{ℕ, _^_, _≤_, Bool, cond, _&&_, leb}
 use Rattle.encoder.specs.{declared.nameplate.Nameplate.Nameplate, declared.parameters.Parameters.Parameters, declared.parameters.Fields.Fields}
 use Rattle.encoder.specs.{declared.effect.InForce.InForce, declared.effect.Effect.Effect, declared.effect.Effect.the-variants.Taken}
@@ -30,7 +29,7 @@ rulesOf n f =
 unfoldable pub inForce : Nameplate → Parameters → Effect
 inForce n p = answer Refused (Taken (rulesOf n (fieldsOf p))) (refusalOn n p)
 
--- bounds that keep every sum of the axis within its type. What a plate and parameters put in force is within them, and more is: R = 1, or M above R
+-- bounds that keep every sum of the axis within its type. They are wider than what plate and parameters put in force: R may be 1, and M above R
 unfoldable pub rulesFit : InForce → Bool
 rulesFit f =
     leb 1 (f .steps .0)

@@ -1,5 +1,4 @@
 -- The nameplate (document 01, "Plate and reading"; row 7 of "When a call is turned away").
--- Assumes nothing.
 use Rattle.integer.specs.Base.{ℕ, _*_, not, _&&_, leb, replicate}
 use Rattle.encoder.specs.{declared.nameplate.Nameplate.Nameplate, Refusal.wrongPlate, Refusal.when}
 

@@ -1,5 +1,4 @@
--- The numbers of the refusals, named after the trade's words (document 01, "When a call is turned away"), and what an answer is by them.
--- Assumes nothing.
+-- The numbers of the refusals, named with the trade's words (document 01, "When a call is turned away"), their order, and the answer by a number.
 use Rattle.integer.specs.Base.{ℕ, zero, suc, Bool, true, false}
 
 -- length: telegram not 17 octets, block not 11
@@ -77,7 +76,7 @@ abbrev pub _before_ : ℕ → ℕ → ℕ
 zero before m = m
 suc n before m = suc n
 
--- an answer by the number of its refusal: what is taken at 0, and otherwise the number alone
+-- an answer by the number of its refusal: at 0 the value, else the number alone
 abbrev pub answer : {A : Type 0} → (ℕ → A) → A → ℕ → A
 answer refused taken zero = taken
 answer refused taken (suc n) = refused (suc n)

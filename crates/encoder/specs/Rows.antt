@@ -1,5 +1,4 @@
 -- The parameters of both classes (document 01, "Class 2 telegram", "Class 4 block"; rows 4 to 7 of "When a call is turned away").
--- Assumes nothing.
 use Rattle.integer.specs.Base.{ℕ, _*_, Bool, true, false, _&&_, _||_, eqb, ltb}
 use Rattle.encoder.specs.{declared.nameplate.Nameplate.Nameplate, declared.parameters.Parameters.Parameters}
 use Rattle.encoder.specs.{declared.parameters.Parameters.the-variants.Class2, declared.parameters.Parameters.the-variants.Class4}

@@ -17,7 +17,7 @@ pub struct Nameplate {
 }
 
 impl Nameplate {
-    // By numbers R, T and ident; the other fields are zero.
+    // A nameplate of R, T and ident. The other fields are zero.
     pub fn plain(steps: u32, turns: u32, ident: u16) -> Nameplate
         ensures { λ r. ⌜ r ≡ plainPlate steps turns ident ⌝ }
     {

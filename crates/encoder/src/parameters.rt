@@ -1,4 +1,4 @@
-// The parameters of both classes, kept as sent, and what they are refused for (document 01, "Class 2 telegram" and "Class 4 block").
+// The parameters of both classes, kept as sent, and their refusals (document 01, "Class 2 telegram" and "Class 4 block").
 ghost use Rattle.integer.specs.Base.{_≡_};
 ghost use Rattle.encoder.specs.{fieldsOf, fieldsRefusal, refusalOn};
 use crate::nameplate::Nameplate;
@@ -26,7 +26,7 @@ pub enum Parameters {
     },
 }
 
-// What the rules ask of the parameters, of either class.
+// The fields that the rules use, of either class.
 pub struct Fields {
     pub class4: bool,
     pub operating: u8,
@@ -43,7 +43,7 @@ impl Parameters {
         first(plate.refusal(), self.fields().refusal(plate))
     }
 
-    // The fields that the rules ask.
+    // The fields that the rules use.
     pub fn fields(self) -> Fields
         ensures { λ r. ⌜ r ≡ fieldsOf self ⌝ }
     {

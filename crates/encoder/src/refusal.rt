@@ -1,4 +1,4 @@
-// The numbers of the refusals, named after the trade's words (document 01, "When a call is turned away"), and their order.
+// The numbers of the refusals, named with the trade's words (document 01, "When a call is turned away"), and their order.
 ghost use Rattle.integer.specs.Base.{_≡_};
 ghost use Rattle.encoder.specs.{when, _before_};
 

@@ -1,5 +1,4 @@
 -- Parameters as numbers in a lent list: what a reader answers fills it, or is the refusal.
--- Assumes nothing.
 pub use borrow.Author.Needs.{needs}
 use Rattle.integer.specs.Base.{_≡_, refl, List, [], _∷_, ℕ, zero, suc, length, set, eq-eqb, ne-eqb}
 use Rattle.integer.proofs.{known}

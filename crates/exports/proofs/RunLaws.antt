@@ -1,5 +1,4 @@
--- A batch from its start on: each way out, by the answers of the calls on that way.
--- Assumes nothing.
+-- A batch from its start on: the first refusal of plate, length, start and batch is the answer.
 use Rattle.integer.specs.Base.{_≡_, refl, _∙_, List, ℕ, zero, suc, length, eq-eqb, ne-eqb}
 use Rattle.encoder.specs.{Nameplate, Parameters, _before_, answer, plateRefusal}
 use Rattle.encoder.proofs.{first-no, number-is}
@@ -7,7 +6,7 @@ use Rattle.axis.specs.{Axis, Next, next, startRaw}
 use Rattle.axis_batch.specs.{after, positionsOf, batchRefusal, batch, batchList}
 use Rattle.exports.specs.{runRefusal, ran}
 
--- a batch that is refused keeps its list, so that its list is by its number either way
+-- a refused batch keeps its list, so that the number decides on the list
 list-by : (a : Axis) (raws out : List ℕ) → batchList a raws out ≡ answer (λ (_ : ℕ). out) (batchList a raws out) (batch a raws out .refusal)
 unfolding batch batchList
 list-by a raws out = go (batchRefusal a raws out)

@@ -1,5 +1,4 @@
 -- Parameters as plain numbers, as other languages bring and take them.
--- Assumes nothing.
 use Rattle.integer.specs.Base.{ℕ, _≡_, cond, not, List, [], _∷_, eqb, length}
 use Rattle.encoder.specs.{Nameplate, Parameters, Class2, Class4, wrongBuffer, when, _before_, answer, plateRefusal}
 use Rattle.parameters_reader.specs.{Received, Taken, Refused}

@@ -1,5 +1,4 @@
 -- A batch from its start on, in one call.
--- Assumes nothing.
 use Rattle.integer.specs.Base.{ℕ, not, List, eqb, length}
 use Rattle.encoder.specs.{Nameplate, Parameters, wrongBuffer, when, _before_, answer, plateRefusal}
 use Rattle.axis.specs.{startRaw}

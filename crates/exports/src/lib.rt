@@ -16,8 +16,8 @@ use parameters_reader::read_telegram;
 use run::run;
 use take::take;
 
-// An axis is started at a first raw number, and a batch of raw numbers is read after it. The parameters are those of class 2 where `four`
-// is 0, and else those of class 4.
+// Starts an axis at a first raw number and reads a batch of raw numbers after it. Where `class4` is 0 the parameters are those of class 2, else those
+// of class 4.
 #[no_mangle]
 pub extern "C" fn encoder_batch(
     steps: u32,

@@ -1,7 +1,6 @@
 -- THE THEOREM for C (document 01, "The distance rule"): what is claimed of every function in specs/Exported.antt holds of encoder_batch. A start and a
 -- batch after it are one list of calls, and the accuracy theorem holds of every list. The answer is the table's, since an axis that was started is
 -- within its limits.
--- Assumes nothing.
 use Rattle.integer.specs.Base.{_≡_, refl, sym, ap, _∙_, not, List, [], _∷_, ℕ, zero, suc, eqb, ℤ, length}
 use Rattle.encoder.specs.{wrongBuffer, when, _before_, plateRefusal}
 use Rattle.encoder.proofs.{before-none}
@@ -19,7 +18,7 @@ number-of : (a b : Axis) (k : ℕ) → next a k b .refusal ≡ k
 number-of a b zero = refl
 number-of a b (suc k) = refl
 
--- what comes after a refusal is of no account
+-- what comes after a refusal does not matter
 before-same : (k x y : ℕ) → (k ≡ 0 → x ≡ y) → (k before x) ≡ (k before y)
 before-same zero x y h = h refl
 before-same (suc k) x y h = refl

@@ -1,6 +1,5 @@
 -- Worthless functions break the claim, each on the axis of document 01's listing: first at raw number 28, then at 4 and 10, 6 steps on each time. Exact is
 -- 10.2 and 12, which on the ring of 7 is 3.2 and 5, and no position is within a unit of both. And the table takes this call.
--- Assumes nothing.
 use Rattle.integer.specs.Base.{_≡_, refl, _∙_, [], _∷_, ℕ, arith, ℤ, pos, getD}
 use Rattle.integer.specs.{_modulo_}
 use Rattle.encoder.specs.{plateRefusal, fieldsRefusal, refusalOn, rulesOf}

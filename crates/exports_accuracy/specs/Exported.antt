@@ -1,15 +1,14 @@
 -- THE CLAIM for C (document 01, "The distance rule"): every position that encoder_batch yields is less than one unit away from the exact one.
 --
--- Supposed is, of each raw number after the first: the shaft has truly moved by m steps since the one before, by less than half the sensor's range
--- either way, and the sensor shows where it came to. Nothing else is: C may give any numbers, and lists of any lengths and contents.
+-- It supposes of each raw number after the first: the shaft has truly moved by m steps since the one before, by less than half the sensor's range
+-- either way, and the sensor shows where it came to. It supposes nothing else: C may give any numbers, and lists of any lengths and contents.
 --
--- Claimed is, where the answer is 0: the list has one position for each raw number after the first and nothing else, and each lies less than one unit
+-- It claims, where the answer is 0: the list has one position for each raw number after the first and nothing else, and each lies less than one unit
 -- from g × M / R, counted around the total range L. Here g is the true steps up to its own raw number, counted from the sensor's zero. And the answer
--- is the table's number, so that no call is turned away that the table takes.
+-- is the table's number, so that the function turns no call away that the table takes.
 --
 -- The claim is of any function that C could call so, and sees only its answer and the list that it leaves. Worthless.antt in proofs/
 -- refutes functions that show one position throughout or turn every call away, and Exported.antt proves the claim of ours.
--- Assumes nothing.
 use Rattle.integer.specs.Base.{_≡_, not, List, ℕ, eqb, ℤ, length}
 use Rattle.encoder.specs.{wrongBuffer, when, _before_, plateRefusal, plainPlate}
 use Rattle.accuracy.specs.{firstNumber, batching, Device, startBy, opened, refusalBy, Supposed, Entries}

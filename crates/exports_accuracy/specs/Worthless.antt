@@ -1,5 +1,4 @@
 -- Functions that document 01 would send back ("Programs we would send back"). Each breaks the claim: proofs/Worthless.antt.
--- Assumes nothing.
 use Rattle.integer.specs.Base.{ℕ, length, getD, replicate}
 use Rattle.exports_accuracy.specs.Exported.{Arguments, Function, encoderBatch}
 

@@ -1,5 +1,4 @@
 -- A flag as a number, 0 or 1, and as one bit of a word.
--- Assumes nothing.
 use Rattle.integer.specs.Base.{_≡_, refl, Bool, true, false, cond, ℕ, _*_, _^_, _<_, arith, boolByte}
 use Rattle.integer.specs.{at}
 

@@ -1,5 +1,4 @@
--- A clamped number lies between the limits: by the two tests, whichever way they went.
--- Assumes nothing.
+-- A clamped number lies between the limits. By cases on the two tests.
 use Rattle.integer.specs.Base.{_≡_, refl, Bool, true, false, ℤ, _≤ℤ_, ltZ}
 use Rattle.integer.specs.{clamp}
 use Rattle.integer.proofs.Signed.{signed}

@@ -1,5 +1,4 @@
 -- The remainder rounded down: z and z modulo n differ by a multiple of n, and no other number below n does.
--- Assumes nothing.
 use Rattle.integer.specs.Base.{_≡_, sym, ap, _∙_, ℕ, suc, _+_, _*_, _/_, _%_, _<_, arith, ℤ, pos, negsuc}
 use Rattle.integer.specs.{_modulo_}
 use Rattle.integer.proofs.Signed.{above, below}

@@ -1,5 +1,4 @@
 -- Lists of a known length, and numbers as octets: the laws hold for every number of octets.
--- Assumes nothing.
 use Rattle.integer.specs.Base.{_≡_, refl, sym, ap, _∙_, List, [], _∷_, _++_, append-assoc, append-nil, ℕ, zero, suc, _+_, _*_, _/_, _%_, _^_, _<_, _≤_, arith}
 use Rattle.integer.specs.Base.{add-one, w8, Fits, length, getD, take, drop, length-append, length-take, length-drop, length-take-le, take-at, drop-at}
 use Rattle.integer.specs.Base.{drop-drop, drop-length, putMid, postOf}
@@ -7,7 +6,7 @@ use Rattle.integer.specs.{bigEndian, octets}
 use lib.{Seq.getD-drop}
 use native.Mathlib.Nat as N
 
--- a list of a known length, element by element: what is computed of it then computes
+-- a list of known length is the list of its elements, so that definitions by list compute
 abbrev pub firsts : ℕ → List ℕ → List ℕ
 firsts zero l = []
 firsts (suc n) l = getD l 0 0 ∷ firsts n (drop 1 l)
@@ -26,7 +25,7 @@ bigEndian-snoc (x ∷ os) o =
     let e : 256 ^ length (os ++ (o ∷ [])) ≡ 256 ^ length os * 256 = rw (length-append, add-one) (N.pow-suc 256 (length os)) in
     omega (arith, bigEndian-snoc os o, ap (λ (n : ℕ). x * n) e)
 
--- a number that k octets hold stands in its k octets
+-- a number below 256 ^ k is the number of its k octets
 pub bigEndian-octets : (k n : ℕ) → n < 256 ^ k → bigEndian (octets k n) ≡ n
 unfolding octets bigEndian
 bigEndian-octets zero n h = omega arith
@@ -34,11 +33,11 @@ bigEndian-octets (suc k) n h =
     let l : n / 256 < 256 ^ k = N.div-lt-iff-lt-mul {k = 256} (omega arith) .1 (rw N.pow-suc at h) in
     rw (bigEndian-snoc, bigEndian-octets k (n / 256) l) (N.div-add-mod' n 256)
 
--- each element is an octet, as the machine tells of a lent slice of them
+-- each element is below 256: the machine guarantees this of a lent slice of octets
 abbrev pub Octets : List ℕ → Type 0
 Octets os = (i : ℕ) → Fits w8 (getD os i 0)
 
--- so that k octets hold a number below 256 ^ k
+-- so the number of k octets is below 256 ^ k
 pub bigEndian-lt : (os : List ℕ) → Octets os → bigEndian os < 256 ^ length os
 unfolding bigEndian
 bigEndian-lt [] h = omega arith
@@ -46,7 +45,7 @@ bigEndian-lt (o ∷ os) h =
     let p : o * 256 ^ length os ≤ 255 * 256 ^ length os = N.mul-le-mul-right (256 ^ length os) (omega (arith, h 0 .fits)) in
     rw N.pow-suc (omega (arith, bigEndian-lt os (λ i. h (suc i))))
 
--- parts of octets are octets, so that up to four of them hold a number of 32 bits
+-- a part of octets consists of octets, so that up to four of them are a number of 32 bits
 take-octets : (k : ℕ) (os : List ℕ) → Octets os → Octets (take k os)
 take-octets zero os h i = record { fits = omega arith }
 take-octets (suc k) [] h i = record { fits = omega arith }
@@ -63,7 +62,7 @@ bigEndian-part os k l h o =
     let b : 256 ^ length p ≤ 256 ^ 4 = N.pow-le-pow-right {n = 256} (omega arith) a in
     N.mod-eq-of-lt (N.lt-of-lt-of-le (bigEndian-lt p (take-octets l (drop k os) (drop-octets k os o))) b)
 
--- ---- parts of a buffer that are lent one behind the other: s is what stands there so far, in front of what the buffer t had
+-- ---- parts of a buffer, lent one after the other: s is written so far, and behind it stands the rest of the buffer t
 put-next : (s j t : List ℕ) (a b : ℕ) → length s ≡ a → putMid a b (s ++ drop a t) j ≡ s ++ j ++ drop (a + b) t
 put-next s j t a b h = rw (take-at s (drop a t) a h, drop-at s (drop a t) a h, drop-drop) (sym (append-assoc s j (drop (a + b) t)))
 

@@ -1,7 +1,6 @@
--- Facts of ℤ by `omega`. An integer is two naturals, how far it lies above 0 and how far below; each operation has one equation, linear in
--- these, and each order and equation of ℤ is one of naturals. `omega (signed, add-is x y, ..)` so reads and proves statements of ℤ: list the
--- equation of each compound term.
--- Assumes nothing.
+-- Facts of ℤ by `omega`. An integer is two naturals, how far it lies above 0 and how far below. Each operation has one equation, linear in
+-- these; each order and equation of ℤ is one of naturals. So `omega (signed, add-is x y, ..)` proves statements of ℤ: list the equation of each
+-- compound term.
 use Rattle.integer.specs.Base.{_≡_, refl, sym, ap, Bool, true, false, not, cond, ℕ, zero, suc, _+_, _*_, _-_, _<_, _≤_, min, arith, T, ltb, ℤ, pos, negsuc}
 use Rattle.integer.specs.Base.{negℤ, _+ℤ_, _-ℤ_, _*ℤ_, _≤ℤ_, _<ℤ_, ltZ, Width, SFits, toZ, ofZ, toZ-ofZ}
 use lib.{Dec.ltb→lt, Dec.nltb→le, Dec.lt→ltb, Dec.le→leb, Dec.leb→le, IntN.subℕ, Signed.ltZ-no}
@@ -95,7 +94,7 @@ of-lt {x = pos a} {y = negsuc b} h = absurd (h .lt)
 of-lt {x = negsuc a} {y = pos b} h = omega arith
 of-lt {x = negsuc a} {y = negsuc b} h = omega (arith, ltb→lt b a (h .lt))
 
--- ---- what a test of two integers tells, and what the machine reads back from the bits of a number that fits
+-- ---- what a test of two integers tells; a number that fits reads back unchanged
 pub lt-true : (x y : ℤ) → ltZ x y ≡ true → above x + below y < above y + below x
 lt-true x y e = of-lt {x = x} {y = y} (record { lt = subst T (sym e) tt })
 
@@ -105,5 +104,5 @@ lt-false x y e = of-le {x = y} {y = x} (ltZ-no (subst (λ (t : Bool). T (not t))
 pub held : {w : Width} {z : ℤ} → SFits w z → above (toZ w (ofZ w z)) + below z ≡ above z + below (toZ w (ofZ w z))
 held {w} {z} f = of-eq (toZ-ofZ w z f)
 
--- what `omega` is handed
+-- the facts that `omega` gets
 pub ruleset signed = (arith, to-eq, of-eq, to-le, of-le, to-lt, of-lt, lt-true, lt-false, held)

@@ -1,5 +1,4 @@
--- How far an integer lies from 0: of sums, products and quotients, and that a number that is near enough fits its type.
--- Assumes nothing.
+-- The size |z| of differences, products and quotients. A number of small enough size fits its type.
 use Rattle.integer.specs.Base.{_≡_, refl, _∙_, ℕ, suc, _+_, _*_, _/_, _<_, _≤_, _^_, arith, T, ℤ, pos, negsuc, negℤ, natAbs, _+ℤ_, _-ℤ_, _*ℤ_, nonNeg, quotZ}
 use Rattle.integer.specs.Base.{Width, w64, Fits, SFits, toZ, ofZ, toZ-ofZ, toZ-pos}
 use Rattle.integer.proofs.Signed.{above, below, apart, neg-is, add-is, diff-is}
@@ -16,7 +15,7 @@ abs-add x y = omega (arith, abs-is x, abs-is y, abs-is (x +ℤ y), add-is x y, a
 pub abs-diff : (x y : ℤ) → natAbs (x -ℤ y) ≤ natAbs x + natAbs y
 abs-diff x y = omega (arith, abs-is x, abs-is y, abs-is (x -ℤ y), diff-is x y, apart (x -ℤ y))
 
--- ---- in the machine's words
+-- ---- in machine words
 pub reads : {w : Width} {z : ℤ} → SFits w z → toZ w (ofZ w z) ≡ z
 reads {w} {z} f = toZ-ofZ w z f
 
@@ -29,7 +28,7 @@ pub to-nat : {w : Width} (z : ℤ) → (below z ≡ 0) × (natAbs z < 2 ^ bits w
 to-nat (pos n) h = (tt, record { fits = h .1 })
 to-nat (negsuc n) h = absurd (omega arith)
 
--- the difference of two natural numbers that are small enough: it fits, and is read back
+-- the difference of two small natural numbers fits, and reads back unchanged
 module _ (a b : ℕ) (a-most : a ≤ 2 ^ 32) (b-most : b ≤ 2 ^ 32) where
   read-both : toZ w64 a -ℤ toZ w64 b ≡ pos a -ℤ pos b
   read-both = rw (toZ-pos w64 a (omega arith), toZ-pos w64 b (omega arith))

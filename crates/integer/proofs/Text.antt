@@ -1,6 +1,4 @@
--- A text at the start of a buffer, and one copied behind it, as `bytes::copy` leaves the part of the buffer that is lent from there on: its front is
--- the text, and the rest is as it was.
--- Assumes nothing.
+-- A text stands at the start of a buffer, and `bytes::copy` writes another one behind it: then both stand at the start, and the rest is as it was.
 use Rattle.integer.specs.Base.{_≡_, refl, sym, _∙_, List, [], _∷_, _++_, append-assoc, ℕ, zero, suc, _≤_, arith, length, take, drop, length-append}
 use Rattle.integer.specs.Base.{take-length, take-at, drop-at, drop-drop, length-take-le, putMid, same-len-mid}
 use Rattle.integer.specs.{over}
@@ -23,7 +21,7 @@ part-over u j l a b ha hb l-is =
     rw (l-is, take-length j, append-assoc j, behind (length j) b (drop a u) hb, length-append, length-take-le a u ha, drop-drop)
     (sym (append-assoc (take a u) j _))
 
--- a part is given back as long as it was, so that the buffer reaches as far
+-- a lent part keeps its length, and so does the buffer
 pub part-end : (u l : List ℕ) (a b n : ℕ) → length u ≡ n → length l ≡ length (take b (drop a u)) → n ≤ length (putMid a b u l)
 part-end u l a b n u-long l-long = omega (arith, same-len-mid a b u l l-long)
 

@@ -1,5 +1,4 @@
 -- A number limited at both ends (document 01: "limited to signed 32 bits").
--- Assumes nothing.
 use Rattle.integer.specs.Base.{cond, ℤ, ltZ}
 
 -- the number from low to high that is nearest to z

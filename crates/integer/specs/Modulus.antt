@@ -1,5 +1,4 @@
 -- The remainder of an integer, rounded down (document 01: "modulo", "towards minus infinity").
--- Assumes nothing.
 use Rattle.integer.specs.Base.{ℕ, suc, _-_, _%_, ℤ, pos, negsuc}
 
 -- z modulo n: from 0 to n - 1, for either sign of z

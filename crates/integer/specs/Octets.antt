@@ -1,5 +1,4 @@
 -- Octets are counted from 1, and numbers of several octets have the most significant first (document 01, its opening lines).
--- Assumes nothing.
 use Rattle.integer.specs.Base.{ℕ, zero, suc, _+_, _-_, _*_, _/_, _%_, _^_, List, [], _∷_, _++_, length, getD, take, drop}
 
 -- octet k of a telegram

@@ -1,5 +1,4 @@
 -- A quoted text as its octets: in ASCII, the codes of its characters.
--- Assumes nothing.
 use Rattle.integer.specs.Base.{ℕ, List, [], _∷_, _++_, length, drop}
 use Prim.Native.Char.{code}
 use Prim.Native.String.{String, [] as []ˢ, _∷_ as _∷ˢ_}

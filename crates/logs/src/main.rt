@@ -1,5 +1,5 @@
-// Runs axislog's core on stored logs: the arguments name them, and the answers to each stand under its name. Then on buffers that have not the
-// length they should have, for a log that is too long too.
+// Runs axislog's core on stored logs: the arguments name them, and the answers to each stand under its name. Then it lends buffers of a wrong
+// length, also for a log that is too long.
 use axislog_core::OUTPUT;
 use axislog_core::Outcome;
 use axislog_core::answer;
@@ -10,7 +10,7 @@ fn main() {
     lend(&mut output);
 }
 
-// The buffer is lent as a whole array first, whose length is then known by its type.
+// The whole array is lent first: its type tells its length.
 fn lend(output: &mut [u8; 780_001]) {
     all(output);
 }

@@ -1,5 +1,4 @@
--- What the loops over octets keep, at first, one further and at the end, and what a bit is.
--- Assumes nothing.
+-- What the loops over octets keep: at the start, one octet further and at the end. And what a bit is.
 pub use borrow.Author.Needs.{needs}
 use Rattle.integer.specs.Base.{_≡_, refl, false, List, [], _++_, append-assoc, append-nil, ℕ, zero, suc, _+_, _-_, _*_, _/_, _%_, _^_, _<_, _≤_, arith, add-one, w8}
 use Rattle.integer.specs.Base.{Fits, bitAnd, and-mask, length, getD, take, drop, set, take-all, drop-cons, drop-length}
@@ -20,7 +19,7 @@ number-more s i n h k e = rw (add-one, take-suc s i 0 h, bigEndian-snoc) (omega 
 pub number-all : (s : List ℕ) (i n : ℕ) → length s ≤ i → n ≡ bigEndian (take i s) % 2 ^ 32 → n ≡ bigEndian s % 2 ^ 32
 number-all s i n h e = rw (take-all i s h) at e
 
--- octets still to be written in front of those that are: at first, one further, and at the end
+-- the octets still to be written, in front of those written: at the start, one further and at the end
 pub put-none : (s : List ℕ) (n : ℕ) → octets (length s) n ++ drop (length s) s ≡ octets (length s) n
 put-none s n = rw (drop-length, append-nil)
 

@@ -2,7 +2,7 @@
 ghost use Rattle.integer.specs.Base.{_≡_, _%_, _^_, length};
 ghost use Rattle.integer.specs.{bigEndian, octets, bit};
 
-// The number that the octets stand for; of more than four, the last four.
+// The number of the octets. Of more than four octets only the last four count.
 pub fn number(part: &[u8]) -> u32
     ensures { λ r. ⌜ r ≡ bigEndian (now (part .entry)) % 2 ^ 32 ⌝ }
 {
@@ -15,7 +15,7 @@ pub fn number(part: &[u8]) -> u32
     n
 }
 
-// Fills the octets with a number, zeros in front; fewer than four take its last octets.
+// Writes a number into the octets, with zeros in front. Fewer than four octets get its last octets.
 pub fn put_number(part: &mut [u8], n: u32)
     ensures { λ _. ⌜ now (part .exit) ≡ octets (length (now (part .entry))) n ⌝ }
 {

@@ -1,5 +1,4 @@
--- What the readers find in the octets, and the parameters judged by it.
--- Assumes nothing.
+-- What the readers find in the octets: the ident and the parameters.
 pub use borrow.Author.Needs.{needs}
 use Rattle.integer.specs.Base.{_≡_, sym, ap, _∙_, not, List, ℕ, _%_, _^_, arith, eqb, length, getD, take, drop, eq-eqb, ne-eqb}
 use Rattle.integer.specs.{bigEndian}
@@ -18,7 +17,7 @@ module _ (n : Nameplate) (t : List ℕ) (os : Octets t) (u l k : ℕ) (r : Recei
       → u ≡ bigEndian (take 4 (drop 9 t)) % 2 ^ 32 → l ≡ bigEndian (take 4 (drop 13 t)) % 2 ^ 32
       → r ≡ received (when (not (eqb (identIn t) (n .ident))) otherIdent before parametersRefusal n (telegramParameters t)) (telegramParameters t)
   telegram-judged i w m long i-is r-is m-is w-is p-is u-is l-is =
-      -- by the seventeen octets, however the definition takes its two from them
+      -- the seventeen octets are named one by one, so that the definition computes
       let e : bigEndian (take 2 (drop 4 t)) ≡ i = sym (i-is ∙ bigEndian-part t 4 2 (omega arith) os) in
       let ident : identIn t ≡ i = rw (known 17 t long) (rw (known 17 t long) at e) in
       let is : p ≡ telegramParameters t = rw (p-is, u-is, l-is, bigEndian-part t 9 4 (omega arith) os, bigEndian-part t 13 4 (omega arith) os) in

@@ -1,5 +1,4 @@
 -- The readers of both classes (document 01, "Class 2 telegram", "Class 4 block"; rows 1, 2 and 7 of "When a call is turned away").
--- Assumes nothing.
 use Rattle.integer.specs.Base.{ℕ, not, List, eqb, length}
 use Rattle.integer.specs.{octet, part, bigEndian}
 use Rattle.encoder.specs.{Nameplate, Parameters, Class2, Class4, wrongLength, otherIdent, when, _before_, answer, plateRefusal, parametersRefusal}

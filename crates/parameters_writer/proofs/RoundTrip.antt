@@ -1,6 +1,5 @@
 -- Parameters that the writer takes, written into any buffer of their class's length, read back as the same parameters on the same
 -- nameplate: one theorem for both classes. The buffer's length is known, so that its octets compute, and a number stands in its octets.
--- Assumes nothing.
 use Rattle.integer.specs.Base.{_≡_, refl, ap, _∙_, List, ℕ, zero, suc, _^_, _<_, arith, length, eq-eqb}
 use Rattle.integer.specs.{octets}
 use Rattle.integer.proofs.{known, bigEndian-octets}
@@ -9,7 +8,7 @@ use Rattle.parameters_reader.specs.{Taken, identIn, telegramParameters, telegra
 use Rattle.parameters_writer.specs.{Done, Refused, lengthOf, telegramOf, blockOf, octetsOf, writeRefusal, written, writtenOctets, readAs, Held}
 use Rattle.parameters_writer.proofs.WriteLaws.{passed}
 
--- ---- what it says that the writer has taken parameters
+-- ---- what an accepted write tells
 done-is : (k : ℕ) → answer Refused Done k ≡ Done → k ≡ 0
 done-is zero e = refl
 done-is (suc k) e = let z : _≡_ {A = ℕ} 0 1 = cc in absurd (omega arith)

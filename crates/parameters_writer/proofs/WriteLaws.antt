@@ -1,5 +1,4 @@
--- What the writer leaves in the buffer, and what has been tested before.
--- Assumes nothing.
+-- What the writer leaves in the buffer, and what it has tested before.
 pub use borrow.Author.Needs.{needs}
 use Rattle.integer.specs.Base.{_≡_, sym, _∙_, not, List, ℕ, eqb, length, take, drop, set, putMid, eqb-true}
 use Rattle.integer.specs.{octets}
@@ -37,7 +36,7 @@ pub write-number : (n : Nameplate) (p : Parameters) (size : ℕ) → (plateRefus
 unfolding writeRefusal refusalOn
 write-number n p size = before-again (plateRefusal n) (parametersRefusal n p) (λ (m : ℕ). when (not (eqb size (lengthOf p))) wrongBuffer before m)
 
--- a buffer that is written to has passed the tests of nameplate, length and parameters
+-- an accepted write has passed the tests of nameplate, length and parameters
 module _ (n : Nameplate) (p : Parameters) (size : ℕ) where
   pub passed : writeRefusal n p size ≡ 0 → (plateRefusal n ≡ 0) × (size ≡ lengthOf p) × (parametersRefusal n p ≡ 0)
   unfolding writeRefusal

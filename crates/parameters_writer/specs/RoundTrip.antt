@@ -1,5 +1,4 @@
--- What it is to be read back, for both classes (demand 2: parameters written as octets read back as the same parameters).
--- Assumes nothing.
+-- The round trip, for both classes (demand 2: parameters written as octets read back as the same parameters).
 use Rattle.integer.specs.Base.{ℕ, _^_, _<_, List}
 use Rattle.encoder.specs.{Nameplate, Parameters, Class2, Class4, fieldsOf}
 use Rattle.parameters_reader.specs.{Received, readTelegram, readBlock}

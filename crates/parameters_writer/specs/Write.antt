@@ -1,5 +1,4 @@
 -- The writer of both classes (document 01, "Class 2 telegram", "Class 4 block"; row 13 of "When a call is turned away").
--- Assumes nothing.
 use Rattle.integer.specs.Base.{ℕ, not, List, [], _∷_, _++_, eqb, length}
 use Rattle.integer.specs.{part, octets}
 use Rattle.encoder.specs.{Nameplate, Units, Parameters, Class2, Class4, wrongBuffer, when, _before_, answer, plateRefusal, parametersRefusal}

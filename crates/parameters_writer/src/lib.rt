@@ -68,7 +68,7 @@ fn fill(ident: u16, parameters: Parameters, buffer: &mut [u8])
     }
 }
 
-// Octets 5, 6 and 9 to 17 of a telegram; the others are not ours.
+// Octets 5, 6 and 9 to 17 of a telegram. The writer does not touch the others.
 fn fill_telegram(ident: u16, operating: u8, units: Units, range: Units, telegram: &mut [u8])
     requires { ⌜ length (now telegram) ≡ 17 ⌝ }
     ensures { λ _. ⌜ now (telegram .exit) ≡ telegramOf ident operating units range (now (telegram .entry)) ⌝ }

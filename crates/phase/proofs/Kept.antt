@@ -1,7 +1,6 @@
--- A ledger beside the phase. Its p is the origin of phase, offset and g: a function of the three, so that what is kept is one equation. A move of phase
--- and g alike keeps it, a start makes it 0, and a preset the new position. Whatever the three are, the position is near p + g × M / R, since what it is
--- off by is one remainder below R less another.
--- Assumes nothing.
+-- A ledger beside the phase. Its p is a function of phase, offset and g (`origin`), so that what is kept is one equation. A move changes phase and g
+-- alike and keeps p; a start makes p 0, a preset the new position. The position is always near p + g × M / R: it is off by one remainder below R less
+-- another.
 use Rattle.integer.specs.Base.{_≡_, ap, ℕ, _+_, _*_, _/_, _%_, _<_, arith, digits-div, ℤ, pos, _+ℤ_, _-ℤ_, _*ℤ_}
 use Rattle.integer.specs.{_modulo_}
 use Rattle.integer.proofs.{above, below, signed, neg-is, add-is, diff-is, mul-is, modulo-has, modulo-is, modulo-alike}

@@ -1,5 +1,4 @@
 -- The phase of an axis that keeps its place: place × M around R × L. Its units are rule 4's, and start and move of the place are those of the phase.
--- Assumes nothing.
 use Rattle.integer.specs.Base.{_≡_, ap, ℕ, _+_, _*_, _/_, _%_, _<_, arith, digits-div, ℤ, pos, _+ℤ_, _*ℤ_}
 use Rattle.integer.specs.{_modulo_}
 use Rattle.integer.proofs.{add-is, mul-is, modulo-has, modulo-alike}

@@ -1,6 +1,5 @@
 -- The phase: whole units and what is left of the next one as one number, units × R + rest. R parts are a unit, M parts are a step, and R × L parts are
 -- the total range. So a phase goes around a ring of R × L, a step moves it by M, and no step is rounded.
--- Assumes nothing.
 use Rattle.integer.specs.Base.{ℕ, _*_, _/_, ℤ, pos, negℤ, _+ℤ_, _-ℤ_, _*ℤ_, _<ℤ_}
 use Rattle.integer.specs.{_modulo_}
 

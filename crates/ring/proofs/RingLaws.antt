@@ -1,5 +1,4 @@
--- Each way out of the functions on a ring: a number and the place that it is counted to differ by a multiple of n.
--- Assumes nothing.
+-- The functions on a ring give the remainder by n: a number and its place differ by a multiple of n.
 pub use borrow.Author.Needs.{needs}
 use Rattle.integer.specs.Base.{_≡_, refl, sym, _∙_, Bool, true, false, cond, _&&_, and-true, true≢false, ℕ, zero, suc, _+_, _-_, _*_, _/_, _%_, _≤_, _<_, _^_, arith}
 use Rattle.integer.specs.Base.{T, ltb, ℤ, pos, negsuc, natAbs, _+ℤ_, _-ℤ_, +ℤ-idl, ltZ, nonNeg, lt-ltb, le-ltb, ltb-true, ltb-false, ne-eqb, eq-eqb, w64, w32, Fits}
@@ -17,7 +16,7 @@ pub on-none : (z : ℤ) (n : ℕ) → n ≡ 0 → 0 ≡ onRing z n
 unfolding onRing
 on-none z n e = rw (eq-eqb n 0 e)
 
--- ---- one place and the number of places by which it is moved, both on the ring
+-- ---- a place and a move, both below n
 module _ (from by n : ℕ) (f : from < n) (b : by ≤ n) where
   pub ahead-on : by < n - from → from + by ≡ onRing (pos from +ℤ pos by) n
   ahead-on h = rw (on-ring (pos from +ℤ pos by) n (omega arith)) (sym (modulo-is _ 0 0 (omega arith) (omega arith)))
@@ -25,7 +24,7 @@ module _ (from by n : ℕ) (f : from < n) (b : by ≤ n) where
   pub ahead-round : n - from ≤ by → by - (n - from) ≡ onRing (pos from +ℤ pos by) n
   ahead-round h = rw (on-ring (pos from +ℤ pos by) n (omega arith)) (sym (modulo-is _ 0 1 (omega arith) (omega arith)))
 
--- ---- any place and any number: what dividing each by n leaves is the same around the ring
+-- ---- any place and any move: their remainders lead to the same place
 module _ (place n from by m r : ℕ) (d : ℤ) (fits : SFits w64 d) (from-is : from ≡ place % n) (lt : from < n) (by-is : by ≡ m % n) where
   add-back : ltZ (toZ w64 (ofZ w64 d)) (pos 0) ≡ true → r ≡ onRing (pos from +ℤ pos (n - by)) n → m ≡ natAbs (toZ w64 (ofZ w64 d))
       → r ≡ onRing (pos place +ℤ d) n
@@ -61,7 +60,7 @@ module _ (place n from by m r : ℕ) (d : ℤ) (fits : SFits w64 d) (from-is : f
       → m ≡ natAbs (toZ w64 (ofZ w64 d)) → r ≡ onRing (pos place +ℤ d) n
   add-on on r-is on-is m-is = by-way (ltZ (toZ w64 (ofZ w64 d)) (pos 0)) refl (rw on-is at r-is) m-is
 
--- ---- the way ahead that comes to the same
+-- ---- back by k is ahead by n − k
 module _ (d : ℤ) (by n : ℕ) (fits : SFits w64 d) where
   pub forward-back : ltZ (toZ w64 (ofZ w64 d)) (pos 0) ≡ true → n - by ≡ cond (ltZ d (pos 0)) (n - by) by
   forward-back t = let e : ltZ d (pos 0) ≡ true = rw (reads fits) at t in rw e
@@ -69,14 +68,14 @@ module _ (d : ℤ) (by n : ℕ) (fits : SFits w64 d) where
   pub forward-ahead : ltZ (toZ w64 (ofZ w64 d)) (pos 0) ≡ false → by ≡ cond (ltZ d (pos 0)) (n - by) by
   forward-ahead t = let e : ltZ d (pos 0) ≡ false = rw (reads fits) at t in rw e
 
--- ---- what dividing leaves
+-- ---- the remainder
 pub rest-is : (a n : ℕ) → a < n → a ≡ a % n
 rest-is a n h = sym (N.mod-eq-of-lt h)
 
 pub rest-lt : (a n : ℕ) → 0 < n → a % n < n
 rest-lt a n h = N.mod-lt a h
 
--- ---- how far a number below 0 is from it: −1 less the number is no longer below 0, and one more than it fits
+-- ---- |d| for d < 0, as (−1 − d) + 1, which fits
 module _ (d : ℤ) (f : SFits w64 d) where
   read-test : (b : Bool) → ltZ (toZ w64 (ofZ w64 d)) (pos 0) ≡ b → ltZ d (pos 0) ≡ b
   read-test b t = rw (reads f) at t

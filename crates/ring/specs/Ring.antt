@@ -1,5 +1,4 @@
 -- A ring of n places, and numbers within it (document 01: "modulo L", "modulo C", "modulo R × L"; "strictly between −L and L").
--- Assumes nothing.
 use Rattle.integer.specs.Base.{ℕ, Bool, cond, eqb, ltb, ℤ, natAbs}
 use Rattle.integer.specs.{_modulo_}
 

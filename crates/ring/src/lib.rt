@@ -1,8 +1,8 @@
-// Arithmetic on a ring of n places, 0 to n - 1, on which a signed number counts around.
+// Counting around a ring of n places, 0 to n - 1.
 ghost use Rattle.integer.specs.Base.{_≡_, cond, _-_, _<_, _≤_, _%_, pos, natAbs, _+ℤ_, ltZ};
 ghost use Rattle.ring.specs.{onRing, inRange};
 
-// The place that lies d further on than a place, or back where d is below 0.
+// The place d further on; a negative d goes back.
 pub fn add(place: u64, d: i64, n: u64) -> u64
     ensures { λ r. ⌜ r ≡ onRing (pos place +ℤ d) n ⌝ }
 {
@@ -22,14 +22,14 @@ pub fn between(v: i64, n: u32) -> bool
     (v < end) & (0 - end < v)
 }
 
-// How far d is from 0.
+// |d|. A negative d gives (-1 - d) + 1, which fits for every d.
 pub fn magnitude(d: i64) -> u64
     ensures { λ r. ⌜ r ≡ natAbs d ⌝ }
 {
     if d < 0 { (-1 - d) as u64 + 1 } else { d as u64 }
 }
 
-// Back by so many places is ahead by the others: with one sum for both, no branch hangs on the sign of a move.
+// Back by k is ahead by n - k. So one sum serves both, and no branch depends on the sign of a move.
 fn forward(d: i64, by: u64, n: u64) -> u64
     requires { ⌜ by < n ⌝ }
     ensures { λ r. ⌜ (r ≡ cond (ltZ d (pos 0)) (n - by) by) × (r ≤ n) ⌝ }
@@ -45,7 +45,7 @@ fn ahead(from: u64, by: u64, n: u64) -> u64
     if by < room { from + by } else { by - room }
 }
 
-// What dividing by n leaves; most numbers are below n, and need no division.
+// a modulo n. Most numbers are below n and need no division.
 fn rest(a: u64, n: u64) -> u64
     requires { ⌜ 0 < n ⌝ }
     ensures { λ r. ⌜ (r ≡ a % n) × (r < n) ⌝ }

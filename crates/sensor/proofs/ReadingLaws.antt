@@ -1,5 +1,4 @@
--- What holds of a reading that is not refused: its raw number is below C and fits 32 bits; and the answer taken apart.
--- Assumes nothing.
+-- An accepted reading has a raw number below C, which fits 32 bits.
 pub use borrow.Author.Needs.{needs}
 use Rattle.integer.specs.Base.{_≡_, refl, sym, _∙_, ℕ, zero, suc, _+_, _*_, _≤_, _<_, _^_, arith, leb, leb-false, w64, w32, Fits}
 use Rattle.encoder.specs.{Nameplate, wrongStep, when, answer, plateRefusal, capacityOf}
@@ -44,7 +43,7 @@ module _ (n : Nameplate) (s t : ℕ) where
 
 pub ruleset fitting = (N.le-refl, step-in, turns-fit, sum-fits, sum-fits-32)
 
--- ---- the answer taken apart
+-- ---- from the answer back to the number
 number-by : (k r m : ℕ) → answer Refused (Number r) k ≡ Number m → (k ≡ 0) × (m ≡ r)
 number-by zero r m e = (refl, cc)
 number-by (suc k) r m e = let z : _≡_ {A = ℕ} 0 1 = cc in absurd (omega arith)

@@ -1,5 +1,4 @@
 -- A reading and its raw number (document 01, "Plate and reading"; rows 8 and 9 of "When a call is turned away").
--- Assumes nothing.
 use Rattle.integer.specs.Base.{ℕ, _+_, _*_, leb}
 use Rattle.encoder.specs.{Nameplate, wrongStep, wrongTurn, when, _before_, answer, plateRefusal}
 use Rattle.sensor.specs.{declared.Reading.Reading, declared.Reading.the-variants.Number, declared.Reading.the-variants.Refused}

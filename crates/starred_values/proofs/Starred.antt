@@ -1,5 +1,4 @@
 -- The definitions give the starred values: one list, one claim, computed.
--- Assumes nothing.
 use Rattle.integer.specs.Base.{_≡_, refl, map}
 use Rattle.integer.specs.{bigEndian, _modulo_, clamp}
 use Rattle.ring.specs.{inRange}

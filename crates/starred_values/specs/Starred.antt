@@ -1,5 +1,4 @@
 -- The starred bench values (document 01, "Bench values"): beside each value of the paper what the definitions give, in one list.
--- Assumes nothing.
 use Rattle.integer.specs.Base.{ℕ, _/_, _%_, false, List, [], _∷_, _++_, replicate, ℤ, pos, negsuc}
 use Rattle.encoder.specs.{Nameplate, Parameters, Class2, Class4, Effect, Taken as Effective, Refused as NotInForce, plainPlate, inForce}
 use Rattle.parameters_reader.specs.{Received, Taken, Refused, readTelegram}

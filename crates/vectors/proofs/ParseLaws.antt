@@ -1,5 +1,4 @@
 -- A digit of base 10 or 16 behind 56 bits fits 64 bits.
--- Assumes nothing.
 pub use borrow.Author.Needs.{needs}
 use Rattle.integer.specs.Base.{ℕ, _+_, _*_, _%_, _^_, _≤_, _<_, arith, w64, Fits}
 use native.Mathlib.Nat.{mul-le-mul}

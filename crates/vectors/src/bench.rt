@@ -1,4 +1,4 @@
-// Cycles and diagnoses, on the axis and the link that the line before has left. Octets are hexadecimal, other numbers decimal.
+// Cycles and diagnoses, on the axis and the link that the line before left. Octets are hexadecimal, other numbers decimal.
 use crate::answer;
 use crate::call;
 use crate::parse::decimal;
@@ -30,7 +30,7 @@ pub(crate) fn run(bench: Bench, word: u8, line: &[u8]) -> Bench {
     }
 }
 
-// Any other call; another axis has another link.
+// Any other call. A new axis gets a new link.
 fn called(bench: Bench, word: u8, line: &[u8]) -> Bench {
     let axis = call::run(bench.axis, word, line);
     if word == b'a' {

@@ -52,7 +52,7 @@ fn described(line: &[u8]) -> Axis {
     fresh(plate, parameters(line, head.next))
 }
 
-// Before the first line that describes an axis: none that any call takes.
+// Before the first line that describes an axis: a record that every call refuses.
 pub(crate) fn none() -> Axis {
     fresh(
         Nameplate::plain(0, 0, 0),
@@ -168,7 +168,7 @@ fn batch(axis: Axis, raws: &[u32], positions: &mut [u32]) -> Axis {
     next.axis
 }
 
-// Puts the numbers of a line at the front of out, and answers how many there are.
+// Writes the numbers of a line to the front of out, and answers how many there are.
 fn numbers(line: &[u8], from: usize, out: &mut [u32]) -> usize
     ensures { λ r. ⌜ Counts r (now (out .exit)) ⌝ }
 {

@@ -1,5 +1,5 @@
-// Runs the worked values of the papers, and values that were calculated apart. The file stdin has a vector a line, and the file stdout the
-// same lines, each with the answer that is to come.
+// Runs the worked values of the papers, and values that were calculated independently. The file stdin has one vector a line; the file stdout has
+// the same lines, each with its expected answer.
 mod answer;
 mod bench;
 mod call;
@@ -17,7 +17,7 @@ fn main() {
     lines(&space[..n]);
 }
 
-// The calls of one line are made on the axis and the link that the line before has left.
+// A line works on the axis and the link that the line before left.
 fn lines(text: &[u8]) {
     let mut bench = bench::none();
     let mut at = 0;

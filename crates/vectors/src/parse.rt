@@ -17,7 +17,7 @@ pub struct ParsedSigned {
     pub next: usize,
 }
 
-// The decimal number behind what stands from an index on.
+// The next decimal number from an index on.
 pub(crate) fn decimal(line: &[u8], from: usize) -> Parsed {
     truncated(number(line, past_blanks(line, from), 10))
 }
@@ -44,7 +44,7 @@ pub(crate) fn signed(line: &[u8], from: usize) -> ParsedSigned {
     }
 }
 
-// The hexadecimal number behind what stands from an index on.
+// The next hexadecimal number from an index on.
 pub(crate) fn hexadecimal(line: &[u8], from: usize) -> Parsed {
     truncated(number(line, past_blanks(line, from), 16))
 }

@@ -38,7 +38,7 @@ fn plates(a: Nameplate, b: Nameplate) -> bool {
         & serials(serial_a, serial_b)
 }
 
-// Each takes its arrays as parameters: of a field that was copied the check does not know the length.
+// The arrays are parameters, since the check does not know the length of an array in a copied field.
 fn versions(a: [u8; 2], b: [u8; 2]) -> bool {
     check::same(&a, &b)
 }

@@ -99,7 +99,7 @@ pub(crate) fn nameplate(line: &[u8]) -> Plated {
     }
 }
 
-// Puts the octets of a line at the front of out, and answers how many there are.
+// Writes the octets of a line to the front of out, and answers how many there are.
 pub(crate) fn octets(line: &[u8], from: usize, out: &mut [u8]) -> usize
     ensures { λ r. ⌜ Counts r (now (out .exit)) ⌝ }
 {

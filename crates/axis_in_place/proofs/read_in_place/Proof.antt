@@ -1,7 +1,6 @@
 -- `read_in_place` meets its contract: a walk through its four statements. The borrow is opened, the record is copied and handed to `Axis::read`,
 -- of which only the contract is known; the axis of the answer is stored in the record, and the borrow is closed at it.
 -- No line names a field of `Axis`, `Steps` or `Turns`: the walk is the same whatever they hold.
--- Assumes nothing.
 use Rattle.integer.specs.Base.{_≡_, refl, ap, ℕ, [], _∷_, List, w8}
 use Rattle.encoder.specs.{Steps, Turns}
 use Rattle.axis.specs.{Axis, Next, read}
@@ -55,7 +54,7 @@ stepVal = Laws.val S.the-type S′.the-laws
 abbrev turnVal : Turns → Val
 turnVal = Laws.val T.the-type T′.the-laws
 
--- what whoever holds the answer knows of its fields
+-- what the holder of the answer knows of its fields
 axis-is : (r : Next) (v : Val) → Is N.the-row r (v ∷ []) → Is Rec.the-row (r .axis) (axisVal (r .axis) ∷ [])
 axis-is r v is = Laws.owed N.the-type N′.the-laws r _ is .0
 

@@ -1,4 +1,4 @@
--- The answers stand within their buffer, by OutcomeLaws of axislog_core.
+-- The answers stand within their buffer.
 use Rattle.axislog_core.proofs.{takings}
 use Rattle.axislog.proofs.{InputLaws.needs, emit.Statement.statement, emit.Tie.close, emit.Tie.spec}
 

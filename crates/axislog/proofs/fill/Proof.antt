@@ -1,4 +1,4 @@
--- By the laws of InputLaws: the invariant says that the definition from here on is the definition from the start.
+-- The invariant: the octets read so far stand at the start of the buffer.
 use Rattle.integer.specs.Base.{_≡_, _≤_, _-_, length}
 use Rattle.axislog.proofs.{InputLaws.inputs, InputLaws.needs, fill.Statement.statement, fill.Tie.close, fill.Tie.spec, fill.Tie.InvT-loop}
 use Rattle.axislog.proofs.{fill.Tie.MeasureT-loop}

@@ -1,4 +1,4 @@
--- By the laws of LogLaws: what is written, and what the lines from here on will answer, make up the answers to all.
+-- What is written and the answers to come make up all answers.
 use Rattle.integer.specs.Base.{_≡_, _-_, length}
 use Rattle.axislog_core.proofs.{LogLaws.Running, LogLaws.logs, LogLaws.needs, each_line.Statement.statement, each_line.Tie.close, each_line.Tie.spec}
 use Rattle.axislog_core.proofs.{each_line.Tie.InvT-loop, each_line.Tie.MeasureT-loop}

@@ -1,4 +1,4 @@
--- By what the calls ensure, one after the other: the raw number, the word, what the cycle makes of it, the preset and the input.
+-- The calls yield it one after the other: the raw number, the word, the reaction, the preset and the input.
 use Rattle.cyclic.proofs.CycleLaws.{preset-possible, left-fields, left-standing, done-answer, done-input, needs}
 use Rattle.cyclic.proofs.exchange.Statement.{statement}
 use Rattle.cyclic.proofs.exchange.Tie.{close, spec, Need-preset-requires, Need-fill-requires, Need-returns}

@@ -1,4 +1,3 @@
--- By the class.
 use Rattle.cyclic.proofs.{CycleLaws.input-two, CycleLaws.needs, fill.Statement.statement, fill.Tie.close, fill.Tie.spec}
 
 pub fill-spec : {M : Type 1} → statement M

@@ -1,4 +1,3 @@
--- By the class.
 use Rattle.cyclic.proofs.{CycleLaws.word-two, CycleLaws.needs, word_of.Statement.statement, word_of.Tie.close, word_of.Tie.spec}
 
 pub word-of-spec : {M : Type 1} → statement M

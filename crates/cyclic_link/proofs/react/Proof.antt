@@ -1,4 +1,3 @@
--- By the class.
 use Rattle.integer.proofs.{reads}
 use Rattle.cyclic_link.proofs.{Class2Laws.needs, react.Statement.statement, react.Tie.close, react.Tie.spec}
 

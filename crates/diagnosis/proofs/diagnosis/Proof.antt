@@ -1,4 +1,3 @@
--- By the number of the refusal.
 use Rattle.diagnosis.proofs.{DiagnosisLaws.asks, DiagnosisLaws.entries, PartLaws.needs, diagnosis.Statement.statement, diagnosis.Tie.close}
 use Rattle.diagnosis.proofs.{diagnosis.Tie.spec}
 

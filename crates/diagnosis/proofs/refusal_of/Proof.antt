@@ -1,4 +1,4 @@
--- 16 does not come up on an axis within its limits.
+-- An axis within its limits does not get 16.
 use Rattle.axis.proofs.{stands-none}
 use Rattle.diagnosis.proofs.{PartLaws.needs, refusal_of.Statement.statement, refusal_of.Tie.close, refusal_of.Tie.spec}
 

@@ -1,4 +1,3 @@
--- By the laws of RunLaws, of the plate and the parameters that the numbers stand for.
 use Rattle.exports.proofs.{RunLaws.naming, NumbersLaws.needs, encoder_batch.Statement.statement, encoder_batch.Tie.close, encoder_batch.Tie.spec}
 
 pub encoder-batch-spec : {M : Type 1} → statement M

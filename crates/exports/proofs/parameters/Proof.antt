@@ -1,4 +1,3 @@
--- The class by its number.
 use Rattle.integer.specs.Base.{ne-eqb}
 use Rattle.exports.proofs.{parameters.Statement.statement, parameters.Tie.close, parameters.Tie.spec}
 

@@ -1,4 +1,4 @@
--- The answers stand within their buffer, by OutcomeLaws of axislog_core.
+-- The answers stand within their buffer.
 use Rattle.integer.specs.Base.{needs}
 use Rattle.axislog_core.proofs.{takings}
 use Rattle.logs.proofs.{run.Statement.statement, run.Tie.close, run.Tie.spec}

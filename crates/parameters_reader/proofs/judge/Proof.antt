@@ -1,4 +1,3 @@
--- By the number.
 use Rattle.integer.specs.Base.{sym}
 use Rattle.encoder.proofs.{refused-is}
 use Rattle.parameters_reader.proofs.{judge.Statement.statement, judge.Tie.close, judge.Tie.spec}

@@ -1,4 +1,3 @@
--- Refusal by refusal, and the parameters judged.
 use Rattle.parameters_reader.specs.{blockRefusal, readBlock}
 use Rattle.parameters_reader.proofs.{ReadLaws.reads, ReadLaws.needs, read_block.Statement.statement, read_block.Tie.close, read_block.Tie.spec}
 

@@ -1,4 +1,3 @@
--- Refusal by refusal, and the parameters judged.
 use Rattle.parameters_reader.specs.{telegramRefusal, readTelegram}
 use Rattle.parameters_reader.proofs.{ReadLaws.reads, ReadLaws.needs, read_telegram.Statement.statement, read_telegram.Tie.close, read_telegram.Tie.spec}
 

@@ -1,4 +1,3 @@
--- Either class.
 use Rattle.parameters_writer.specs.{octetsOf}
 use Rattle.parameters_writer.proofs.{WriteLaws.needs, fill.Statement.statement, fill.Tie.close, fill.Tie.spec}
 

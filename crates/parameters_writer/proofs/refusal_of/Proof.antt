@@ -1,4 +1,3 @@
--- By the calls, in the order of the definition.
 use Rattle.parameters_writer.proofs.{WriteLaws.write-number, WriteLaws.needs, refusal_of.Statement.statement, refusal_of.Tie.close, refusal_of.Tie.spec}
 
 pub refusal-of-spec : {M : Type 1} → statement M

@@ -1,4 +1,3 @@
--- By the number of the refusal.
 use Rattle.encoder.proofs.{exits}
 use Rattle.parameters_writer.proofs.{WriteLaws.right-length, WriteLaws.needs, write_parameters.Statement.statement, write_parameters.Tie.close}
 use Rattle.parameters_writer.proofs.{write_parameters.Tie.spec}

@@ -1,4 +1,4 @@
--- By the laws of RingLaws: −2 ^ 63 too has its magnitude.
+-- |−2 ^ 63| fits too.
 use Rattle.ring.proofs.{RingLaws.magnitudes, RingLaws.needs, magnitude.Statement.statement, magnitude.Tie.close, magnitude.Tie.spec}
 
 pub magnitude-spec : {M : Type 1} → statement M

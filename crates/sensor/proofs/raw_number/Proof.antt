@@ -1,4 +1,3 @@
--- By the number of the refusal.
 use Rattle.encoder.proofs.{exits}
 use Rattle.sensor.specs.{numbered}
 use Rattle.sensor.proofs.{ReadingLaws.fitting, ReadingLaws.needs, raw_number.Statement.statement, raw_number.Tie.close, raw_number.Tie.spec}

@@ -1,4 +1,3 @@
--- By the calls, in the order of the definition.
 use Rattle.sensor.specs.{stepRefusal}
 use Rattle.sensor.proofs.{ReadingLaws.needs, refusal_of.Statement.statement, refusal_of.Tie.close, refusal_of.Tie.spec}
 

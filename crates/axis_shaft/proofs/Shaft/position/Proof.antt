@@ -1,4 +1,3 @@
--- By the laws of PlaceLaws.
 use Rattle.axis_shaft.proofs.{PlaceLaws.places, SensorLaws.needs, Shaft.position.Statement.statement, Shaft.position.Tie.close, Shaft.position.Tie.spec}
 
 pub position-spec : {M : Type 1} → statement M

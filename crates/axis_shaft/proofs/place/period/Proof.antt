@@ -1,4 +1,3 @@
--- By the laws of PlaceLaws.
 use Rattle.axis_shaft.proofs.{PlaceLaws.places, SensorLaws.needs, place.period.Statement.statement, place.period.Tie.close, place.period.Tie.spec}
 
 pub period-spec : {M : Type 1} → statement M

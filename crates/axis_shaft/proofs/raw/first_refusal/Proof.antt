@@ -1,4 +1,4 @@
--- Of the readings from the i-th on, the first refusal is that of them all.
+-- The first refusal of the readings from the i-th on is the first refusal of all.
 use Rattle.integer.specs.Base.{_≡_, _≤_, _<_, _-_, length, drop}
 use Rattle.encoder.specs.{Sound}
 use Rattle.axis_shaft.specs.{refusalIn}

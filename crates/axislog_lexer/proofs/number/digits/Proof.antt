@@ -1,4 +1,4 @@
--- By the laws of NumberLaws: the invariant says that the definition from here on is the definition from the start.
+-- The invariant: the definition from here on equals the definition from the start.
 use Rattle.integer.specs.Base.{_≡_, _≤_, _-_, length, drop}
 use Rattle.axislog_lexer.specs.{digits}
 use Rattle.axislog_lexer.proofs.{NumberLaws.numbers, NumberLaws.needs, number.digits.Statement.statement, number.digits.Tie.close, number.digits.Tie.spec}

@@ -1,4 +1,4 @@
--- By the laws of WordLaws: the invariant says that the definition from here on is the definition from the start.
+-- The invariant: the definition from here on equals the definition from the start.
 use Rattle.integer.specs.Base.{_≡_, _≤_, _-_, length, drop}
 use Rattle.axislog_lexer.specs.{past}
 use Rattle.axislog_lexer.proofs.{WordLaws.words, NumberLaws.needs, word.past.Statement.statement, word.past.Tie.close, word.past.Tie.spec}

@@ -1,4 +1,3 @@
--- By the law of Class2Laws.
 use Rattle.cyclic_link.proofs.{Class2Laws.reaction-is, Class2Laws.needs, class2.react.Statement.statement, class2.react.Tie.close, class2.react.Tie.spec}
 
 pub react-spec : {M : Type 1} → statement M

@@ -1,4 +1,3 @@
--- By the test of acknowledge.
 use Rattle.cyclic_link.proofs.{class4.held.Statement.statement, class4.held.Tie.close, class4.held.Tie.spec}
 
 pub held-spec : {M : Type 1} → statement M

@@ -1,4 +1,3 @@
--- By the law of Class4Laws.
 use Rattle.cyclic_link.proofs.{Class4Laws.reaction-is, Class2Laws.needs, class4.react.Statement.statement, class4.react.Tie.close, class4.react.Tie.spec}
 
 pub react-spec : {M : Type 1} → statement M

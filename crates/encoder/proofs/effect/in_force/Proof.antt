@@ -1,4 +1,3 @@
--- By the number of the refusal.
 use Rattle.encoder.specs.{inForce}
 use Rattle.encoder.proofs.{ForceLaws.asks, ForceLaws.force, PlateLaws.needs, effect.in_force.Statement.statement, effect.in_force.Tie.close}
 use Rattle.encoder.proofs.{effect.in_force.Tie.spec}

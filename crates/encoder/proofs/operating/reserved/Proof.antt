@@ -1,4 +1,3 @@
--- By the bits of either class.
 use Rattle.encoder.proofs.{PlateLaws.needs, operating.reserved.Statement.statement, operating.reserved.Tie.close, operating.reserved.Tie.spec}
 
 pub reserved-spec : {M : Type 1} → statement M

@@ -1,4 +1,3 @@
--- By the bits.
 use Rattle.encoder.proofs.{PlateLaws.needs, operating.reversed.Statement.statement, operating.reversed.Tie.close, operating.reversed.Tie.spec}
 
 pub reversed-spec : {M : Type 1} → statement M

@@ -1,4 +1,3 @@
--- By the bits.
 use Rattle.encoder.proofs.{PlateLaws.needs, operating.scaling.Statement.statement, operating.scaling.Tie.close, operating.scaling.Tie.spec}
 
 pub scaling-spec : {M : Type 1} → statement M

@@ -1,4 +1,3 @@
--- Refusal by refusal, those of the start and of the batch behind.
 use Rattle.encoder.proofs.{as-number}
 use Rattle.exports.specs.{ran}
 use Rattle.exports.proofs.{RunLaws.running, NumbersLaws.needs, run.run.Statement.statement, run.run.Tie.close, run.run.Tie.spec}

@@ -1,4 +1,3 @@
--- Either class.
 use Rattle.exports.proofs.{NumbersLaws.needs, take.put.Statement.statement, take.put.Tie.close, take.put.Tie.spec}
 
 pub put-spec : {M : Type 1} → statement M

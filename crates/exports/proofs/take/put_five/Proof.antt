@@ -1,4 +1,3 @@
--- Stores fill the list.
 use Rattle.integer.specs.Base.{arith, length-set}
 use Rattle.exports.proofs.{NumbersLaws.five-filled, NumbersLaws.needs, take.put_five.Statement.statement, take.put_five.Tie.close, take.put_five.Tie.spec}
 

@@ -1,4 +1,3 @@
--- Stores fill the list.
 use Rattle.exports.proofs.{NumbersLaws.three-filled, NumbersLaws.needs, take.put_three.Statement.statement, take.put_three.Tie.close, take.put_three.Tie.spec}
 
 pub put-three-spec : {M : Type 1} → statement M

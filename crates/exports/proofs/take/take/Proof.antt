@@ -1,4 +1,3 @@
--- Refusal by refusal, then what the reader answered.
 use Rattle.integer.specs.Base.{sym, _∙_}
 use Rattle.encoder.proofs.{as-number}
 use Rattle.exports.specs.{takeRefusal, taken}

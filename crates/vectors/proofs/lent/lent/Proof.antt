@@ -1,7 +1,6 @@
 -- `lent` meets its contract: a walk through its five statements. The copy of the axis is lent to `read_in_place`, of which only the contract is
 -- known, for a lifetime that is made for the call; the lifetime is ended, the record comes back as the call left it, and the answer is made of it.
 -- No line names a field of `Axis`, `Steps` or `Turns`: the walk is the same whatever they hold.
--- Assumes nothing.
 use Rattle.integer.specs.Base.{_≡_, refl, ap, ℕ, [], _∷_, List, w8}
 use Rattle.encoder.specs.{Steps, Turns}
 use Rattle.axis.specs.{Axis, Next, read}

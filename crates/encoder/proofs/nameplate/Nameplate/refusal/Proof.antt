@@ -1,4 +1,3 @@
--- As the definition says.
 use Rattle.encoder.specs.{plateRefusal}
 use Rattle.encoder.proofs.{PlateLaws.needs, nameplate.Nameplate.refusal.Statement.statement, nameplate.Nameplate.refusal.Tie.close}
 use Rattle.encoder.proofs.{nameplate.Nameplate.refusal.Tie.spec}

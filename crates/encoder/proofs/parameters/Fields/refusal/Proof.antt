@@ -1,4 +1,3 @@
--- By the calls, in the order of the definition.
 use Rattle.encoder.specs.{fieldsRefusal}
 use Rattle.encoder.proofs.{PlateLaws.fits-product, PlateLaws.needs, parameters.Fields.refusal.Statement.statement, parameters.Fields.refusal.Tie.close}
 use Rattle.encoder.proofs.{parameters.Fields.refusal.Tie.spec}

@@ -1,4 +1,3 @@
--- The fields of either class.
 use Rattle.encoder.proofs.{PlateLaws.needs, parameters.Parameters.fields.Statement.statement, parameters.Parameters.fields.Tie.close}
 use Rattle.encoder.proofs.{parameters.Parameters.fields.Tie.spec}
 

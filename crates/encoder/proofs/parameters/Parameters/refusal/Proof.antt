@@ -1,4 +1,3 @@
--- By the calls, in the order of the definition.
 use Rattle.encoder.specs.{refusalOn}
 use Rattle.encoder.proofs.{PlateLaws.needs, parameters.Parameters.refusal.Statement.statement, parameters.Parameters.refusal.Tie.close}
 use Rattle.encoder.proofs.{parameters.Parameters.refusal.Tie.spec}
