@@ -16,11 +16,11 @@ fn axes(a: Axis, b: Axis) -> bool {
     let plate_b = b.nameplate;
     let sent_a = a.parameters;
     let sent_b = b.parameters;
-    let travel_a = a.shaft;
-    let travel_b = b.shaft;
+    let shaft_a = a.shaft;
+    let shaft_b = b.shaft;
     plates(plate_a, plate_b)
         & parameters(sent_a, sent_b)
-        & travels(travel_a, travel_b)
+        & shafts(shaft_a, shaft_b)
         & (a.offset == b.offset)
         & (a.preset == b.preset)
         & (a.stored == b.stored)
@@ -66,6 +66,6 @@ fn life(parameters: Parameters) -> u8 {
     }
 }
 
-fn travels(a: Shaft, b: Shaft) -> bool {
+fn shafts(a: Shaft, b: Shaft) -> bool {
     (a.place.0 == b.place.0) & (a.last.0 == b.last.0)
 }
