@@ -121,28 +121,6 @@ module _ (line : List ℕ) (p steps turns : ℕ) (reversed : Bool) (b : Bool) (e
         unfolding scale
         range-number range z x = rw (← e, t, ← f, v, ← g, w, ← i, x)
 
-pub ruleset forms = (
-  form-read,
-  form-preset,
-  form-axis,
-  read-number,
-  read-none,
-  preset-number,
-  preset-none,
-  minus-none,
-  minus-zero,
-  minus-fits,
-  minus-number,
-  axis-none,
-  turns-none,
-  turns-number,
-  sequence-none,
-  sequence-cw,
-  sequence-ccw,
-  sequence-other,
-  scale-off,
-  units-none,
-  range-nowhere,
-  range-none,
-  range-number,
-)
+pub ruleset lines = (form-read, form-preset, form-axis, read-number, read-none, preset-number, preset-none, minus-none, minus-zero, minus-fits, minus-number)
+
+pub ruleset axes = (axis-none, turns-none, turns-number, sequence-none, sequence-cw, sequence-ccw, sequence-other, scale-off, units-none, range-nowhere, range-none, range-number)

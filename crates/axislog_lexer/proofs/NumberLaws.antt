@@ -79,21 +79,6 @@ module _ (word : List ℕ) (p : ℕ) (line : List ℕ) (q : Decimal) (e : q ≡ 
     unfolding last
     last-open t = rw (← e, v, ← f, t)
 
-pub ruleset numbers = (
-  digit-low,
-  digit-high,
-  digit-is,
-  digits-end,
-  digits-stop,
-  digits-zero,
-  digits-large,
-  digits-more,
-  number-end,
-  number-none,
-  number-some,
-  labelled-at,
-  labelled-nowhere,
-  last-nothing,
-  last-closed,
-  last-open,
-)
+pub ruleset digit-steps = (digit-low, digit-high, digit-is, digits-end, digits-stop, digits-zero, digits-large, digits-more)
+
+pub ruleset numbers = (number-end, number-none, number-some, labelled-at, labelled-nowhere, last-nothing, last-closed, last-open)

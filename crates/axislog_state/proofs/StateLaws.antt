@@ -103,23 +103,6 @@ module _ (s : State) (f : Form) (r : Reply) where
   unfolding reply
   reply-nothing v e = rw (v, e)
 
-pub ruleset replies = (
-  scaling-fits,
-  class-fits,
-  octet-fits,
-  parameters-is,
-  unstarted-is,
-  answer-at,
-  answer-outside,
-  set-up-refused,
-  set-up-ready,
-  read-none,
-  read-first,
-  read-next,
-  preset-none,
-  preset-made,
-  reply-axis,
-  reply-read,
-  reply-preset,
-  reply-nothing,
-)
+pub ruleset set-ups = (scaling-fits, class-fits, octet-fits, parameters-is, unstarted-is, set-up-refused, set-up-ready)
+
+pub ruleset replies = (answer-at, answer-outside, read-none, read-first, read-next, preset-none, preset-made, reply-axis, reply-read, reply-preset, reply-nothing)
