@@ -3,7 +3,7 @@ use Rattle.integer.specs.Base.{_≡_, sym, _∙_, Bool, true, false, _&&_, ℕ,
 use Rattle.integer.proofs.{reads, fits-abs}
 use Rattle.ring.specs.{inRange}
 use Rattle.encoder.specs.{InForce, Effect, Taken, Refused, _before_, answer, refusalOn, inForce}
-use Rattle.encoder.proofs.{and-split, when-none, first-no, effect-taken, effect-refused, in-force-taken, in-force-refused}
+use Rattle.encoder.proofs.{and-split, when-none, answer-no, first-no, effect-taken, effect-refused, in-force-taken, in-force-refused}
 use Rattle.axis_shaft.specs.{inside, Inside}
 use Rattle.axis_shaft.proofs.{inside-true, inside-is}
 use Rattle.axis.specs.{Axis, rulesOn, keeps, acceptable, axisRefusal, inForceOn, Ready}
@@ -95,10 +95,13 @@ module _ (a : Axis) (e : Effect) where
   unfolding inForceOn
   outside-of n h e-is = effect-refused (axisRefusal a) n (rulesOn a) (sym e-is ∙ h)
 
--- 16 of any call: x is its answer, or what it leaves in a lent buffer
-pub outside-answer : {A : Type 0} (refused : ℕ → A) (taken x : A) (a : Axis) (e : Effect) (n m : ℕ) → e ≡ Refused n → e ≡ inForceOn a → x ≡ refused n
-    → x ≡ answer refused taken (axisRefusal a before m)
-outside-answer refused taken x a e n m h e-is x-is = let o = outside-of a e n h e-is in first-no refused taken x (axisRefusal a) m n (sym (o .0)) (o .1) x-is
+-- 16 of any call, alone or before other refusals: x is its answer, or what it leaves in a lent buffer
+module _ {A : Type 0} (refused : ℕ → A) (taken x : A) (a : Axis) (e : Effect) (n : ℕ) (h : e ≡ Refused n) (e-is : e ≡ inForceOn a) (x-is : x ≡ refused n) where
+  pub outside-alone : x ≡ answer refused taken (axisRefusal a)
+  outside-alone = let o = outside-of a e n h e-is in answer-no refused taken x (axisRefusal a) n (sym (o .0)) (o .1) x-is
+
+  pub outside-answer : (m : ℕ) → x ≡ answer refused taken (axisRefusal a before m)
+  outside-answer m = let o = outside-of a e n h e-is in first-no refused taken x (axisRefusal a) m n (sym (o .0)) (o .1) x-is
 
 module _ (a : Axis) (f : InForce) (r : Ready a f) where
   pub stands-none : axisRefusal a ≡ 0

@@ -1,21 +1,16 @@
 -- The answer of `position`. An axis within its limits always has a position.
 use Rattle.integer.specs.Base.{_≡_, sym, _∙_, ℕ, arith, w64, toZ, ofZ}
 use Rattle.integer.proofs.{reads}
-use Rattle.encoder.specs.{Units, InForce, Effect, Refused as NotInForce}
-use Rattle.encoder.proofs.{refused-is}
+use Rattle.encoder.specs.{Units, InForce}
 use Rattle.axis_shaft.specs.{Reported, At, declared.Reported.the-variants.Refused, reportedAt}
 use Rattle.axis_shaft.proofs.{reported-is as at-is}
-use Rattle.axis.specs.{Axis, inForceOn, Ready, unshiftedOf, positionOf, reported}
-use Rattle.axis.proofs.AxisLaws.{Limits, limits-of, limits-none, ready-of, outside-of, stands-none, offset-fits}
+use Rattle.axis.specs.{Axis, Ready, unshiftedOf, positionOf, reported}
+use Rattle.axis.proofs.AxisLaws.{Limits, limits-of, limits-none, ready-of, outside-alone, stands-none, offset-fits}
 
 -- ---- the shaft gives the answer; its limits are among those of the axis
 pub ready-reported : (a : Axis) (f : InForce) (v : Reported) → Ready a f → v ≡ reportedAt f (toZ w64 (ofZ w64 (a .offset))) (a .shaft) → v ≡ reported a
 unfolding reported positionOf unshiftedOf
 ready-reported a f v r v-is = v-is ∙ rw (reads (offset-fits a f r), at-is f (a .shaft) (r .shaft) (a .offset), stands-none a f r, r .is)
-
-pub reported-no : (a : Axis) (e : Effect) (n : ℕ) → e ≡ NotInForce n → e ≡ inForceOn a → Refused n ≡ reported a
-unfolding reported
-reported-no a e n h e-is = let i = outside-of a e n h e-is in rw (i .0) (sym (refused-is Refused _ n (i .1)))
 
 -- on an axis within its limits it is a position
 pub reported-is : (a : Axis) → Limits a → reported a ≡ At (record { 0 = positionOf a }) (record { 0 = unshiftedOf a })
@@ -35,4 +30,4 @@ module _ (a : Axis) (f : InForce) (r : Ready a f) (e : Reported) where
       let z : _≡_ {A = ℕ} 0 1 = cc in
       absurd (omega arith)
 
-pub ruleset positions = (ready-of, ready-reported, reported-no)
+pub ruleset positions = (ready-of, ready-reported, outside-alone)

@@ -1,7 +1,6 @@
 -- The refusal and the new offset. A place on a ring of 32 bits fits its word, and so does its difference to a number of 32 bits.
 pub use borrow.Author.Needs.{needs}
-use Rattle.integer.specs.Base.{_≡_, refl, _∙_, Bool, true, false, not, ℕ, zero, suc, _≤_, _<_, _^_, arith, ℤ, pos, _+ℤ_, _-ℤ_, +ℤ-idl, w64, w32, Fits, SFits, toZ}
-use Rattle.integer.specs.Base.{ofZ}
+use Rattle.integer.specs.Base.{_≡_, refl, _∙_, Bool, true, false, not, ℕ, zero, suc, _≤_, _<_, _^_, arith, ℤ, pos, _+ℤ_, _-ℤ_, +ℤ-idl, w64, w32, Fits, SFits, toZ, ofZ}
 use Rattle.integer.proofs.{reads, fits-abs, diff-fits, diff-reads, modulo-lt}
 use Rattle.ring.specs.{onRing, inRange}
 use Rattle.ring.proofs.{on-ring, on-none}

@@ -6,8 +6,7 @@ use Rattle.integer.specs.{_modulo_}
 use Rattle.integer.proofs.{signed, neg-is, diff-is, reads, abs-is, fits-abs, diff-fits, diff-reads, modulo-lt, modulo-is, modulo-alike}
 use Rattle.encoder.specs.{InForce, Sound, wrongTurn, when, answer}
 use Rattle.encoder.proofs.{refused-is, before-none, when-not}
-use Rattle.axis_shaft.specs.{Approach, By, declared.Approach.the-variants.Refused, oriented, difference, shorter, moveOf, halfRefusal, moveRefusal}
-use Rattle.axis_shaft.specs.{approachFrom}
+use Rattle.axis_shaft.specs.{Approach, By, declared.Approach.the-variants.Refused, oriented, difference, shorter, moveOf, halfRefusal, moveRefusal, approachFrom}
 use native.Mathlib.Nat as N
 
 -- ---- 1. the oriented number

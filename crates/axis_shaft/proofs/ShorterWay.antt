@@ -1,7 +1,6 @@
 -- The move of a reading that is taken is document 01's d (rule 3): −C/2 < d < C/2, and d is the difference of the oriented numbers up to a
 -- multiple of C. Ahead by less than half the range, or back by what is left of it.
-use Rattle.integer.specs.Base.{_≡_, refl, Bool, true, false, ℕ, suc, _-_, _*_, _<_, arith, eqb, ltb, leb, ℤ, pos, negsuc, natAbs, _-ℤ_, eqb-false, ltb-true}
-use Rattle.integer.specs.Base.{ltb-false}
+use Rattle.integer.specs.Base.{_≡_, refl, Bool, true, false, ℕ, suc, _-_, _*_, _<_, arith, eqb, ltb, leb, ℤ, pos, negsuc, natAbs, _-ℤ_, eqb-false, ltb-true, ltb-false}
 use Rattle.integer.specs.{_modulo_}
 use Rattle.integer.proofs.{signed, apart, diff-is, abs-is, modulo-is}
 use Rattle.encoder.specs.{InForce, wrongTurn, halfRange, when, Sound}

@@ -1,6 +1,5 @@
 -- Decimals, digit by digit: a further digit is appended, and its value determines its octet.
-use Rattle.integer.specs.Base.{_≡_, refl, [], _∷_, _++_, Bool, true, false, cond, ℕ, zero, suc, _+_, _*_, _/_, _%_, _^_, _≤_, _<_, arith, ltb, lt-ltb, le-ltb}
-use Rattle.integer.specs.Base.{ltb-false}
+use Rattle.integer.specs.Base.{_≡_, refl, [], _∷_, _++_, Bool, true, false, cond, ℕ, zero, suc, _+_, _*_, _/_, _%_, _^_, _≤_, _<_, arith, ltb, lt-ltb, le-ltb, ltb-false}
 use Rattle.axislog_lexer.specs.{digitOf}
 use Rattle.axislog_answers.specs.{decimalBelow, decimal}
 

@@ -25,28 +25,28 @@ pub before-none : (n m : ℕ) → (n before m) ≡ 0 → (n ≡ 0) × (m ≡ 0)
 before-none zero m e = (refl, e)
 before-none (suc n) m e = absurd (omega arith)
 
+pub before-assoc : (n m k : ℕ) → ((n before m) before k) ≡ (n before m before k)
+before-assoc zero m k = refl
+before-assoc (suc n) m k = refl
+
+-- a number that the code has put together out of three
+pub in-order : (k v w l j a b c : ℕ) → k ≡ (v before w) → w ≡ (l before j) → v ≡ a → l ≡ b → j ≡ c → k ≡ (a before b before c)
+in-order k v w l j a b c k-is w-is v-is l-is j-is = k-is ∙ rw (w-is, v-is, l-is, j-is)
+
 -- a refusal that came first does not come again
 pub before-again : (n k : ℕ) (f : ℕ → ℕ) → (n before f (n before k)) ≡ (n before f k)
 before-again zero k f = refl
 before-again (suc n) k f = refl
 
--- the same, refusal by refusal: the first number k refuses, or is 0; the first test refuses, or is passed
-module _ {A : Type 0} (refused : ℕ → A) (taken x : A) where
-  module _ (n m k : ℕ) (k-is : k ≡ n) where
-    pub first-no : (k ≡ 0 → ⊥) → x ≡ refused k → x ≡ answer refused taken (n before m)
-    first-no ne x-is = x-is ∙ rw (← k-is, before-first k m ne) (sym (refused-is refused taken k ne))
+-- the same where the number k is of the first refusals only: it refuses, or the others decide
+module _ {A : Type 0} (refused : ℕ → A) (taken x : A) (n m k : ℕ) (k-is : k ≡ n) where
+  pub first-no : (k ≡ 0 → ⊥) → x ≡ refused k → x ≡ answer refused taken (n before m)
+  first-no ne x-is = x-is ∙ rw (← k-is, before-first k m ne) (sym (refused-is refused taken k ne))
 
-    pub first-yes : k ≡ 0 → x ≡ answer refused taken m → x ≡ answer refused taken (n before m)
-    first-yes none x-is = x-is ∙ rw (← k-is, none)
+  pub first-yes : k ≡ 0 → x ≡ answer refused taken m → x ≡ answer refused taken (n before m)
+  first-yes none x-is = x-is ∙ rw (← k-is, none)
 
-  module _ (b : Bool) (n m : ℕ) where
-    pub test-no : b ≡ false → x ≡ refused (suc n) → x ≡ answer refused taken (when (not b) (suc n) before m)
-    test-no e x-is = x-is ∙ rw e
-
-    pub test-yes : b ≡ true → x ≡ answer refused taken m → x ≡ answer refused taken (when (not b) n before m)
-    test-yes e x-is = x-is ∙ rw e
-
-pub ruleset stepwise = (first-no, first-yes, test-no, test-yes)
+pub ruleset stepwise = (first-no, first-yes)
 
 -- a call that answers the number itself, and a buffer that is kept in both cases
 pub number-is : (n : ℕ) → n ≡ answer (λ (k : ℕ). k) 0 n

@@ -1,11 +1,11 @@
 -- Parameters as numbers in a lent list: what a reader answers fills it, or is the refusal.
 pub use borrow.Author.Needs.{needs}
-use Rattle.integer.specs.Base.{_≡_, refl, List, [], _∷_, ℕ, zero, suc, length, set, eq-eqb, ne-eqb}
+use Rattle.integer.specs.Base.{_≡_, refl, sym, _∙_, not, List, [], _∷_, ℕ, zero, suc, eqb, length, set, eqb-true}
 use Rattle.integer.proofs.{known}
-use Rattle.encoder.specs.{Nameplate, Parameters, answer}
-use Rattle.encoder.proofs.{stepwise, number-is, kept-is}
+use Rattle.encoder.specs.{Nameplate, Parameters, wrongBuffer, when, answer, plateRefusal}
+use Rattle.encoder.proofs.{before-none, when-none}
 use Rattle.parameters_reader.specs.{Received, Taken, Refused, telegramRefusal, telegramParameters, readTelegram, blockRefusal, blockParameters, readBlock}
-use Rattle.exports.specs.{numbersOf, Fills, readersRefusal, takeRefusal, numbersIn, taken}
+use Rattle.exports.specs.{numbersOf, Fills, takeRefusal, taken}
 
 -- ---- stores fill a list
 pub three-filled : (l : List ℕ) (a b c : ℕ) → length l ≡ 3 → set (set (set l 0 a) 1 b) 2 c ≡ (a ∷ b ∷ c ∷ [])
@@ -28,27 +28,17 @@ module _ (n : Nameplate) (t : List ℕ) (x : Received) where
   unfolding readBlock
   block-fills e = rw e (by-number 5 (blockRefusal n t) (blockParameters t) refl)
 
--- ---- the parameters, or the reader's refusal
-module _ (x : Received) (out : List ℕ) where
-  module _ (p : Parameters) (e : x ≡ Taken p) where
-    pub take-done : 0 ≡ answer (λ (k : ℕ). k) 0 (readersRefusal x)
-    take-done = rw e
-
-    pub take-numbers : (l : List ℕ) → l ≡ numbersOf p → l ≡ answer (λ (_ : ℕ). out) (numbersIn x out) (readersRefusal x)
-    take-numbers l h = rw e h
-
-  module _ (k : ℕ) (e : x ≡ Refused k) where
-    pub take-refused : k ≡ answer (λ (k : ℕ). k) 0 (readersRefusal x)
-    take-refused = rw e (number-is k)
-
-    pub take-kept : out ≡ answer (λ (_ : ℕ). out) (numbersIn x out) (readersRefusal x)
-    take-kept = rw e (kept-is out k)
-
-pub ruleset taking = (stepwise, eq-eqb, ne-eqb, take-done, take-numbers, take-refused, take-kept)
+-- ---- where no refusal came the list has the right length
+pub take-fits : (n : Nameplate) (x : Received) (size numbers k : ℕ) → k ≡ takeRefusal n size x numbers → k ≡ 0 → Fills size x → Fills numbers x
+unfolding takeRefusal
+take-fits n x size numbers k k-is none fills =
+    let other = before-none (plateRefusal n) _ (sym k-is ∙ none) .1 in
+    let long : numbers ≡ size = eqb-true _ _ (when-none _ 12 (before-none (when (not (eqb numbers size)) wrongBuffer) _ other .0)) in
+    rw long fills
 
 -- ---- the same, of the plate that the numbers stand for
 module _ (n m : Nameplate) (x y : Received) (size : ℕ) (out : List ℕ) where
-  pub take-number-by : (r : ℕ) → r ≡ takeRefusal n size x out → n ≡ m → x ≡ y → r ≡ takeRefusal m size y out
+  pub take-number-by : (r : ℕ) → r ≡ takeRefusal n size x (length out) → n ≡ m → x ≡ y → r ≡ takeRefusal m size y (length out)
   take-number-by r r-is n-is x-is = rw (← n-is, ← x-is) r-is
 
   pub take-list-by : (l : List ℕ) → l ≡ taken n size x out → n ≡ m → x ≡ y → l ≡ taken m size y out

@@ -24,8 +24,8 @@ abbrev pub readersRefusal : Received → ℕ
 readersRefusal (Taken p) = 0
 readersRefusal (Refused n) = n
 
-unfoldable pub takeRefusal : Nameplate → ℕ → Received → List ℕ → ℕ
-takeRefusal n size x out = plateRefusal n before when (not (eqb (length out) size)) wrongBuffer before readersRefusal x
+unfoldable pub takeRefusal : Nameplate → ℕ → Received → ℕ → ℕ
+takeRefusal n size x numbers = plateRefusal n before when (not (eqb numbers size)) wrongBuffer before readersRefusal x
 
 -- the list: the numbers, or as it was
 abbrev pub numbersIn : Received → List ℕ → List ℕ
@@ -33,4 +33,4 @@ numbersIn (Taken p) out = numbersOf p
 numbersIn (Refused n) out = out
 
 unfoldable pub taken : Nameplate → ℕ → Received → List ℕ → List ℕ
-taken n size x out = answer (λ _. out) (numbersIn x out) (takeRefusal n size x out)
+taken n size x out = answer (λ _. out) (numbersIn x out) (takeRefusal n size x (length out))

@@ -3,7 +3,7 @@
 -- within its limits.
 use Rattle.integer.specs.Base.{_≡_, refl, sym, ap, _∙_, not, List, [], _∷_, ℕ, zero, suc, eqb, ℤ, length}
 use Rattle.encoder.specs.{wrongBuffer, when, _before_, plateRefusal}
-use Rattle.encoder.proofs.{before-none}
+use Rattle.encoder.proofs.{before-assoc, before-none}
 use Rattle.axis_shaft.specs.{started}
 use Rattle.axis.specs.{Axis, Next, rulesOn, next, fresh, readRaw, startRaw}
 use Rattle.axis.proofs.{limits-of, limits-none, raw-started-kept}
@@ -67,7 +67,8 @@ module _ (d : Device) (first : ℕ) (raws positions : List ℕ) where
   answer-is : runRefusal (d .plate) (d .parameters) first raws positions ≡ (plate before lengths before start before refusalBy d ledger call)
   unfolding runRefusal batch
   answer-is =
-      ap (λ (k : ℕ). plate before lengths before k)
+      before-assoc plate _ _ ∙ ap (λ (k : ℕ). plate before k) (before-assoc lengths _ _)
+      ∙ ap (λ (k : ℕ). plate before lengths before k)
       (rw start-is (before-same start _ _ (λ none. number-of (begun .axis) _ (batchRefusal (begun .axis) raws positions) ∙ batch-is none)))
 
   -- ---- the list

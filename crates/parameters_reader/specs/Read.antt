@@ -8,9 +8,17 @@ use Rattle.parameters_reader.specs.{declared.Received.Received, declared
 abbrev pub received : ℕ → Parameters → Received
 received n p = answer Refused (Taken p) n
 
+-- before an octet is read: 7, then 1 where there are not as many octets as are due
+abbrev pub frameRefusal : Nameplate → ℕ → ℕ → ℕ
+frameRefusal n octets due = plateRefusal n before when (not (eqb octets due)) wrongLength
+
 -- class 2, octets 5 and 6
 abbrev pub identIn : List ℕ → ℕ
 identIn t = bigEndian (part 5 6 t)
+
+-- 2: the ident differs from the plate
+abbrev pub identRefusal : Nameplate → List ℕ → ℕ
+identRefusal n t = when (not (eqb (identIn t) (n .ident))) otherIdent
 
 -- octets 9, 10 to 13 and 14 to 17
 abbrev pub telegramParameters : List ℕ → Parameters
@@ -18,11 +26,7 @@ telegramParameters t = Class2 (octet 9 t) (record { 0 = bigEndian (part 10 13 t)
 
 -- the order of refusals: 7, 1, 2, 3, 4, 5
 unfoldable pub telegramRefusal : Nameplate → List ℕ → ℕ
-telegramRefusal n t =
-    plateRefusal n
-    before when (not (eqb (length t) 17)) wrongLength
-    before when (not (eqb (identIn t) (n .ident))) otherIdent
-    before parametersRefusal n (telegramParameters t)
+telegramRefusal n t = frameRefusal n (length t) 17 before identRefusal n t before parametersRefusal n (telegramParameters t)
 
 unfoldable pub readTelegram : Nameplate → List ℕ → Received
 readTelegram n t = received (telegramRefusal n t) (telegramParameters t)
@@ -34,7 +38,7 @@ blockParameters b =
 
 -- the order of refusals: 7, 1, 3, 4, 5, 6
 unfoldable pub blockRefusal : Nameplate → List ℕ → ℕ
-blockRefusal n b = plateRefusal n before when (not (eqb (length b) 11)) wrongLength before parametersRefusal n (blockParameters b)
+blockRefusal n b = frameRefusal n (length b) 11 before parametersRefusal n (blockParameters b)
 
 unfoldable pub readBlock : Nameplate → List ℕ → Received
 readBlock n b = received (blockRefusal n b) (blockParameters b)

@@ -1,7 +1,6 @@
 -- The invariant: the octets read so far stand at the start of the buffer.
 use Rattle.integer.specs.Base.{_≡_, _≤_, _-_, length}
-use Rattle.axislog.proofs.{InputLaws.inputs, InputLaws.needs, fill.Statement.statement, fill.Tie.close, fill.Tie.spec, fill.Tie.InvT-loop}
-use Rattle.axislog.proofs.{fill.Tie.MeasureT-loop}
+use Rattle.axislog.proofs.{InputLaws.inputs, InputLaws.needs, fill.Statement.statement, fill.Tie.close, fill.Tie.spec, fill.Tie.InvT-loop, fill.Tie.MeasureT-loop}
 
 abbrev Inv-loop : InvT-loop
 Inv-loop buffer₀ n₀ buffer n = (n ≤ length buffer) × (length buffer ≡ length buffer₀)

@@ -5,7 +5,5 @@ use Rattle.exports.proofs.{RunLaws.running, NumbersLaws.needs, run.run.
 pub run-spec : {M : Type 1} → statement M
 unfolding ran
 run-spec = close (spec
-    (λ c κs. search needs) (λ c. (as-number _ _ (search (needs, running)), search (needs, running)))
-    (λ c. (as-number _ _ (search (needs, running)), search (needs, running))) (λ c κs. search needs)
-    (λ c. (as-number _ _ (search (needs, running)), search (needs, running))) (λ c κs. search needs) (λ c. search needs)
-    (λ c. (as-number _ _ (search (needs, running)), search (needs, running))))
+    (λ c κs. search needs) (λ c κs. search needs) (λ c. (as-number _ _ (search (needs, running)), search (needs, running))) (λ c κs. search needs)
+    (λ c. search needs) (λ c. (as-number _ _ (search (needs, running)), search (needs, running))))
