@@ -38,7 +38,7 @@ pub before-again : (n k : ℕ) (f : ℕ → ℕ) → (n before f (n before k)) �
 before-again zero k f = refl
 before-again (suc n) k f = refl
 
--- the same where the number k is of the first refusals only: it refuses, or the others decide
+-- an answer where the number k is of the first refusals only: k refuses, or the others decide
 module _ {A : Type 0} (refused : ℕ → A) (taken x : A) (n m k : ℕ) (k-is : k ≡ n) where
   pub first-no : (k ≡ 0 → ⊥) → x ≡ refused k → x ≡ answer refused taken (n before m)
   first-no ne x-is = x-is ∙ rw (← k-is, before-first k m ne) (sym (refused-is refused taken k ne))
@@ -48,17 +48,13 @@ module _ {A : Type 0} (refused : ℕ → A) (taken x : A) (n m k : ℕ) (k-is : 
 
 pub ruleset stepwise = (first-no, first-yes)
 
--- a call that answers the number itself, and a buffer that is kept in both cases
+-- a call that answers the number itself
 pub number-is : (n : ℕ) → n ≡ answer (λ (k : ℕ). k) 0 n
 number-is zero = refl
 number-is (suc n) = refl
 
 pub as-number : (r n : ℕ) → r ≡ answer (λ (k : ℕ). k) 0 n → r ≡ n
 as-number r n e = e ∙ sym (number-is n)
-
-pub kept-is : {A : Type 0} (x : A) (n : ℕ) → x ≡ answer (λ (k : ℕ). x) x n
-kept-is x zero = refl
-kept-is x (suc n) = refl
 
 -- a test that gives no refusal
 pub when-not : (b : Bool) (n : ℕ) → when b (suc n) ≡ 0 → b ≡ false

@@ -1,4 +1,4 @@
--- What the readers find in the octets: the ident and the parameters.
+-- What a reader has tested before it reads an octet, and what it finds in the octets: the ident and the parameters.
 pub use borrow.Author.Needs.{needs}
 use Rattle.integer.specs.Base.{_≡_, sym, ap, _∙_, not, List, ℕ, _%_, _^_, arith, eqb, length, getD, take, drop, eqb-true}
 use Rattle.integer.specs.{bigEndian}
@@ -13,7 +13,7 @@ framed n k octets due k-is none =
     let p = before-none (plateRefusal n) _ (sym k-is ∙ none) in
     (p .0, eqb-true _ _ (when-none _ 0 (p .1)))
 
--- ---- what stands in them
+-- ---- what stands in the octets
 module _ (n : Nameplate) (t : List ℕ) (os : Octets t) (u l k : ℕ) (r : Received) (p : Parameters) (none : plateRefusal n ≡ 0) (k-is : k ≡ refusalOn n p) where
   judged : (q : Parameters) → p ≡ q → parametersRefusal n q ≡ k
   unfolding refusalOn

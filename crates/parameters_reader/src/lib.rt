@@ -44,6 +44,7 @@ fn frame_refusal(plate: Nameplate, octets: usize, due: usize) -> u8
     first(plate.refusal(), when(octets != due, refusal::LENGTH))
 }
 
+// What a telegram of 17 octets has, judged on a nameplate within its limits.
 fn take_telegram(plate: Nameplate, telegram: &[u8]) -> Received
     requires { ⌜ (plateRefusal plate ≡ 0) × (length (now telegram) ≡ 17) ⌝ }
     ensures { λ r. ⌜ r ≡ received (identRefusal plate (now (telegram .entry)) before parametersRefusal plate (telegramParameters (now (telegram .entry)))) (telegramParameters (now (telegram .entry))) ⌝ }
@@ -60,6 +61,7 @@ fn take_telegram(plate: Nameplate, telegram: &[u8]) -> Received
     judge(first(other, parameters.refusal(plate)), parameters)
 }
 
+// The same of a block of 11 octets.
 fn take_block(plate: Nameplate, block: &[u8]) -> Received
     requires { ⌜ (plateRefusal plate ≡ 0) × (length (now block) ≡ 11) ⌝ }
     ensures { λ r. ⌜ r ≡ received (parametersRefusal plate (blockParameters (now (block .entry)))) (blockParameters (now (block .entry))) ⌝ }
