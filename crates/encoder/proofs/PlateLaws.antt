@@ -1,8 +1,8 @@
--- What holds of a nameplate that is not refused: its bounds, one by one, and that its capacity fits.
+-- What holds of a nameplate that is not refused: its bounds, one by one, the due length of a lent buffer, and that its capacity fits.
 pub use borrow.Author.Needs.{needs}
-use Rattle.integer.specs.Base.{_≡_, refl, Bool, true, false, _&&_, false≢true, ℕ, _*_, _^_, _≤_, arith, leb-true, w64, w32, Fits}
-use Rattle.encoder.specs.{Nameplate, plateRefusal, capacityOf}
-use Rattle.encoder.proofs.RefusalLaws.{when-none}
+use Rattle.integer.specs.Base.{_≡_, refl, Bool, true, false, _&&_, not, false≢true, ℕ, _*_, _^_, _≤_, arith, eqb, leb-true, eqb-true, w64, w32, Fits}
+use Rattle.encoder.specs.{Nameplate, wrongBuffer, when, plateRefusal, bufferRefusal, capacityOf}
+use Rattle.encoder.proofs.RefusalLaws.{before-none, when-none}
 use native.Mathlib.Nat as N
 
 -- a product of two numbers of 32 bits, as M × T
@@ -36,6 +36,13 @@ plated n e =
       turns-least = leb-true _ _ (b .1);
       turns-most = leb-true _ _ (a .1);
     }
+
+-- what a call on a plate that fills a lent buffer or list has passed
+pub buffer-passed : (n : Nameplate) (size due later : ℕ) → bufferRefusal n size due later ≡ 0 → (plateRefusal n ≡ 0) × (size ≡ due) × (later ≡ 0)
+buffer-passed n size due later e =
+    let plate = before-none (plateRefusal n) _ e in
+    let length = before-none (when (not (eqb size due)) wrongBuffer) later (plate .1) in
+    (plate .0, eqb-true _ _ (when-none _ 12 (length .0)), length .1)
 
 module _ (n : Nameplate) (fits : plateRefusal n ≡ 0) where
   pub capacity-most : capacityOf n ≤ 2 ^ 31

@@ -6,7 +6,7 @@ pub mod Force
 pub mod Combinations
 pub use Refusal.{_before_, answer, classOff, halfRange, noAxis, noForm, nothingElapsed, otherIdent, reservedBit, revolutionUnits, totalRange, when, wrongBuffer, wrongLength, wrongPreset, wrongStep, wrongTurn}
 unfoldable pub use Plate.{plateRefusal}
-pub use Plate.{capacityOf, plainPlate}
+pub use Plate.{bufferRefusal, capacityOf, plainPlate}
 pub use Operating.{classOn, reservedWrong, reversedBy, scalingOn}
 unfoldable pub use Rows.{fieldsRefusal, refusalOn}
 pub use Rows.{fieldsOf, parametersRefusal, rangeWrong, unitsWrong}

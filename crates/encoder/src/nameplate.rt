@@ -1,9 +1,10 @@
 // The nameplate of a device (document 01, "Plate and reading").
 ghost use Rattle.integer.specs.Base.{_≡_, _≤_, _^_};
-ghost use Rattle.encoder.specs.{plateRefusal, capacityOf, plainPlate};
+ghost use Rattle.encoder.specs.{plateRefusal, bufferRefusal, capacityOf, plainPlate};
 use crate::quantity::Steps;
 use crate::quantity::Turns;
 use crate::refusal;
+use crate::refusal::first;
 use crate::refusal::when;
 
 pub struct Nameplate {
@@ -38,6 +39,14 @@ impl Nameplate {
         let turns = self.turns.0;
         let within = (2 <= steps) & (steps <= 65536) & (1 <= turns) & (turns <= 32768);
         when(!within, refusal::PLATE)
+    }
+
+    // The refusal of a call that fills a lent buffer or list of a due length, before its later refusals.
+    pub fn buffer_refusal(self, size: usize, due: usize, later: u8) -> u8
+        ensures { λ r. ⌜ r ≡ bufferRefusal self size due later ⌝ }
+    {
+        let size_wrong = when(size != due, refusal::BUFFER);
+        first(self.refusal(), first(size_wrong, later))
     }
 
     // C, the steps of all turns.

@@ -1,11 +1,11 @@
 -- Parameters as numbers in a lent list: what a reader answers fills it, or is the refusal.
 pub use borrow.Author.Needs.{needs}
-use Rattle.integer.specs.Base.{_≡_, refl, sym, _∙_, not, List, [], _∷_, ℕ, zero, suc, eqb, length, set, eqb-true}
+use Rattle.integer.specs.Base.{_≡_, refl, sym, _∙_, List, [], _∷_, ℕ, zero, suc, length, set}
 use Rattle.integer.proofs.{known}
-use Rattle.encoder.specs.{Nameplate, Parameters, wrongBuffer, when, answer, plateRefusal}
-use Rattle.encoder.proofs.{before-none, when-none}
+use Rattle.encoder.specs.{Nameplate, Parameters, answer, bufferRefusal}
+use Rattle.encoder.proofs.{answer-no, answer-yes, buffer-passed}
 use Rattle.parameters_reader.specs.{Received, Taken, Refused, telegramRefusal, telegramParameters, readTelegram, blockRefusal, blockParameters, readBlock}
-use Rattle.exports.specs.{numbersOf, Fills, takeRefusal, taken}
+use Rattle.exports.specs.{numbersOf, Fills, readersRefusal, takeRefusal, taken}
 
 -- ---- stores fill a list
 pub three-filled : (l : List ℕ) (a b c : ℕ) → length l ≡ 3 → set (set (set l 0 a) 1 b) 2 c ≡ (a ∷ b ∷ c ∷ [])
@@ -28,17 +28,27 @@ module _ (n : Nameplate) (t : List ℕ) (x : Received) where
   unfolding readBlock
   block-fills e = rw e (by-number 5 (blockRefusal n t) (blockParameters t) refl)
 
--- ---- where no refusal came the list has the right length
-pub take-fits : (n : Nameplate) (x : Received) (size numbers k : ℕ) → k ≡ takeRefusal n size x numbers → k ≡ 0 → Fills size x → Fills numbers x
-unfolding takeRefusal
-take-fits n x size numbers k k-is none fills =
-    let other = before-none (plateRefusal n) _ (sym k-is ∙ none) .1 in
-    let long : numbers ≡ size = eqb-true _ _ (when-none _ 12 (before-none (when (not (eqb numbers size)) wrongBuffer) _ other .0)) in
-    rw long fills
+-- ---- the number k refuses, or the list has the right length and is filled
+module _ (n : Nameplate) (x : Received) (size k j : ℕ) (out : List ℕ) (k-is : k ≡ bufferRefusal n (length out) size j) where
+  pub take-fits : k ≡ 0 → Fills size x → Fills (length out) x
+  take-fits none fills = rw (buffer-passed n (length out) size j (sym k-is ∙ none) .1) fills
+
+  module _ (j-is : j ≡ readersRefusal x) {A : Type 0} (refused : ℕ → A) (done y : A) where
+    take-number : k ≡ takeRefusal n size x out
+    unfolding takeRefusal
+    take-number = rw (← j-is) k-is
+
+    pub take-no : (k ≡ 0 → ⊥) → y ≡ refused k → y ≡ answer refused done (takeRefusal n size x out)
+    take-no = answer-no refused done y (takeRefusal n size x out) k take-number
+
+    pub take-yes : k ≡ 0 → y ≡ done → y ≡ answer refused done (takeRefusal n size x out)
+    take-yes = answer-yes refused done y (takeRefusal n size x out) k take-number
+
+pub ruleset taking = (take-no, take-yes)
 
 -- ---- the same, of the plate that the numbers stand for
 module _ (n m : Nameplate) (x y : Received) (size : ℕ) (out : List ℕ) where
-  pub take-number-by : (r : ℕ) → r ≡ takeRefusal n size x (length out) → n ≡ m → x ≡ y → r ≡ takeRefusal m size y (length out)
+  pub take-number-by : (r : ℕ) → r ≡ takeRefusal n size x out → n ≡ m → x ≡ y → r ≡ takeRefusal m size y out
   take-number-by r r-is n-is x-is = rw (← n-is, ← x-is) r-is
 
   pub take-list-by : (l : List ℕ) → l ≡ taken n size x out → n ≡ m → x ≡ y → l ≡ taken m size y out

@@ -1,10 +1,10 @@
 -- A batch from its start on: the first refusal of plate, length, start and batch is the answer.
 use Rattle.integer.specs.Base.{_≡_, refl, _∙_, List, ℕ, zero, suc, length}
-use Rattle.encoder.specs.{Nameplate, Parameters, answer}
+use Rattle.encoder.specs.{Nameplate, Parameters, answer, bufferRefusal}
 use Rattle.encoder.proofs.{first-no, number-is}
 use Rattle.axis.specs.{Axis, Next, next, startRaw}
 use Rattle.axis_batch.specs.{after, positionsOf, batchRefusal, batch, batchList}
-use Rattle.exports.specs.{beginRefusal, runRefusal, ran}
+use Rattle.exports.specs.{runRefusal, ran}
 
 -- a refused batch keeps its list, so that the number decides on the list
 list-by : (a : Axis) (raws out : List ℕ) → batchList a raws out ≡ answer (λ (_ : ℕ). out) (batchList a raws out) (batch a raws out .refusal)
@@ -17,8 +17,8 @@ list-by a raws out = go (batchRefusal a raws out)
 
 -- by the start s: the number k before the batch refuses, or the batch on the started axis answers
 module _ (n : Nameplate) (p : Parameters) (first : ℕ) (raws out : List ℕ) (s : Next) (k : ℕ) (s-is : s ≡ startRaw n p first)
-    (k-is : k ≡ beginRefusal n (length raws) (length out) (s .refusal)) where
-  begin-is : k ≡ beginRefusal n (length raws) (length out) (startRaw n p first .refusal)
+    (k-is : k ≡ bufferRefusal n (length raws) (length out) (s .refusal)) where
+  begin-is : k ≡ bufferRefusal n (length raws) (length out) (startRaw n p first .refusal)
   begin-is = rw (← s-is) k-is
 
   pub run-refused : {A : Type 0} (refused : ℕ → A) (taken x : A) → (k ≡ 0 → ⊥) → x ≡ refused k → x ≡ answer refused taken (runRefusal n p first raws out)

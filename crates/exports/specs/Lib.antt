@@ -3,4 +3,3 @@ pub mod Run
 unfoldable pub use Numbers.{takeRefusal, taken}
 pub use Numbers.{Fills, numbersIn, numbersOf, parametersOf, readersRefusal}
 unfoldable pub use Run.{ran, runRefusal}
-pub use Run.{beginRefusal}

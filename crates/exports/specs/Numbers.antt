@@ -1,6 +1,6 @@
 -- Parameters as plain numbers, as other languages bring and take them.
-use Rattle.integer.specs.Base.{ℕ, _≡_, cond, not, List, [], _∷_, eqb, length}
-use Rattle.encoder.specs.{Nameplate, Parameters, Class2, Class4, wrongBuffer, when, _before_, answer, plateRefusal}
+use Rattle.integer.specs.Base.{ℕ, _≡_, cond, List, [], _∷_, eqb, length}
+use Rattle.encoder.specs.{Nameplate, Parameters, Class2, Class4, answer, bufferRefusal}
 use Rattle.parameters_reader.specs.{Received, Taken, Refused}
 
 -- parameters of class 2 where the first number is 0, and of class 4 where it is any other
@@ -24,8 +24,8 @@ abbrev pub readersRefusal : Received → ℕ
 readersRefusal (Taken p) = 0
 readersRefusal (Refused n) = n
 
-unfoldable pub takeRefusal : Nameplate → ℕ → Received → ℕ → ℕ
-takeRefusal n size x numbers = plateRefusal n before when (not (eqb numbers size)) wrongBuffer before readersRefusal x
+unfoldable pub takeRefusal : Nameplate → ℕ → Received → List ℕ → ℕ
+takeRefusal n size x out = bufferRefusal n (length out) size (readersRefusal x)
 
 -- the list: the numbers, or as it was
 abbrev pub numbersIn : Received → List ℕ → List ℕ
@@ -33,4 +33,4 @@ numbersIn (Taken p) out = numbersOf p
 numbersIn (Refused n) out = out
 
 unfoldable pub taken : Nameplate → ℕ → Received → List ℕ → List ℕ
-taken n size x out = answer (λ _. out) (numbersIn x out) (takeRefusal n size x (length out))
+taken n size x out = answer (λ _. out) (numbersIn x out) (takeRefusal n size x out)

@@ -4,7 +4,7 @@
 mod run;
 mod take;
 
-ghost use Rattle.integer.specs.Base.{_≡_, length};
+ghost use Rattle.integer.specs.Base.{_≡_};
 ghost use Rattle.encoder.specs.{plainPlate};
 ghost use Rattle.parameters_reader.specs.{readTelegram, readBlock};
 ghost use Rattle.exports.specs.{parametersOf, takeRefusal, taken, runRefusal, ran};
@@ -49,7 +49,7 @@ pub extern "C" fn encoder_read_telegram(
     telegram: &[u8],
     parameters: &mut [u32],
 ) -> u8
-    ensures { λ r. ⌜ (r ≡ takeRefusal (plainPlate steps turns ident) 3 (readTelegram (plainPlate steps turns ident) (now (telegram .entry))) (length (now (parameters .entry))))
+    ensures { λ r. ⌜ (r ≡ takeRefusal (plainPlate steps turns ident) 3 (readTelegram (plainPlate steps turns ident) (now (telegram .entry))) (now (parameters .entry)))
         × (now (parameters .exit) ≡ taken (plainPlate steps turns ident) 3 (readTelegram (plainPlate steps turns ident) (now (telegram .entry))) (now (parameters .entry))) ⌝ }
 {
     let plate = Nameplate::plain(steps, turns, ident);
@@ -64,7 +64,7 @@ pub extern "C" fn encoder_read_block(
     block: &[u8],
     parameters: &mut [u32],
 ) -> u8
-    ensures { λ r. ⌜ (r ≡ takeRefusal (plainPlate steps turns 0) 5 (readBlock (plainPlate steps turns 0) (now (block .entry))) (length (now (parameters .entry))))
+    ensures { λ r. ⌜ (r ≡ takeRefusal (plainPlate steps turns 0) 5 (readBlock (plainPlate steps turns 0) (now (block .entry))) (now (parameters .entry)))
         × (now (parameters .exit) ≡ taken (plainPlate steps turns 0) 5 (readBlock (plainPlate steps turns 0) (now (block .entry))) (now (parameters .entry))) ⌝ }
 {
     let plate = Nameplate::plain(steps, turns, 0);

@@ -3,34 +3,20 @@ ghost use Rattle.integer.specs.Base.{_≡_, [], _∷_, length};
 ghost use Rattle.exports.specs.{numbersOf, Fills, readersRefusal, takeRefusal, numbersIn, taken};
 use encoder::nameplate::Nameplate;
 use encoder::parameters::Parameters;
-use encoder::refusal;
-use encoder::refusal::first;
-use encoder::refusal::when;
 use parameters_reader::Received;
 
 // The numbers of received parameters fill a list of `size` numbers.
 pub(crate) fn take(plate: Nameplate, size: usize, received: Received, list: &mut [u32]) -> u8
     requires { ⌜ Fills size received ⌝ }
-    ensures { λ r. ⌜ (r ≡ takeRefusal plate size received (length (now (list .entry))))
+    ensures { λ r. ⌜ (r ≡ takeRefusal plate size received (now (list .entry)))
         × (now (list .exit) ≡ taken plate size received (now (list .entry))) ⌝ }
 {
-    let n = take_refusal(plate, size, received, list.len());
+    let n = plate.buffer_refusal(list.len(), size, readers_refusal(received));
     if n != 0 {
         return n;
     }
     fill(received, list);
     0
-}
-
-// The refusal of what was received for a list of so many numbers, 0 where it fills the list.
-fn take_refusal(plate: Nameplate, size: usize, received: Received, numbers: usize) -> u8
-    ensures { λ r. ⌜ r ≡ takeRefusal plate size received numbers ⌝ }
-{
-    let size_wrong = when(numbers != size, refusal::BUFFER);
-    first(
-        plate.refusal(),
-        first(size_wrong, readers_refusal(received)),
-    )
 }
 
 // The refusal of a reader, 0 where it took the parameters.

@@ -1,10 +1,10 @@
 -- What the writer leaves in the buffer, and what it has tested before.
 pub use borrow.Author.Needs.{needs}
-use Rattle.integer.specs.Base.{_≡_, sym, _∙_, not, List, ℕ, eqb, length, take, drop, set, putMid, eqb-true}
+use Rattle.integer.specs.Base.{_≡_, sym, _∙_, not, List, ℕ, eqb, length, take, drop, set, putMid}
 use Rattle.integer.specs.{octets}
 use Rattle.integer.proofs.{known}
-use Rattle.encoder.specs.{Units, Nameplate, Parameters, wrongBuffer, when, _before_, plateRefusal, parametersRefusal, refusalOn}
-use Rattle.encoder.proofs.{before-none, before-again, when-none}
+use Rattle.encoder.specs.{Units, Nameplate, Parameters, wrongBuffer, when, _before_, plateRefusal, bufferRefusal, parametersRefusal, refusalOn}
+use Rattle.encoder.proofs.{before-again, buffer-passed}
 use Rattle.parameters_writer.specs.{lengthOf, telegramOf, blockOf, writeRefusal}
 
 -- three parts and a store fill a telegram
@@ -32,7 +32,7 @@ block-filled t v w operating units range life speed h q r =
     rw (known 11 t h, b, c)
 
 -- the parameters' own 7 never comes: the nameplate's comes first
-pub write-number : (n : Nameplate) (p : Parameters) (size : ℕ) → (plateRefusal n before when (not (eqb size (lengthOf p))) wrongBuffer before refusalOn n p) ≡ writeRefusal n p size
+pub write-number : (n : Nameplate) (p : Parameters) (size : ℕ) → bufferRefusal n size (lengthOf p) (refusalOn n p) ≡ writeRefusal n p size
 unfolding writeRefusal refusalOn
 write-number n p size = before-again (plateRefusal n) (parametersRefusal n p) (λ (m : ℕ). when (not (eqb size (lengthOf p))) wrongBuffer before m)
 
@@ -40,10 +40,7 @@ write-number n p size = before-again (plateRefusal n) (parametersRefusal n p) (�
 module _ (n : Nameplate) (p : Parameters) (size : ℕ) where
   pub passed : writeRefusal n p size ≡ 0 → (plateRefusal n ≡ 0) × (size ≡ lengthOf p) × (parametersRefusal n p ≡ 0)
   unfolding writeRefusal
-  passed e =
-      let plate = before-none (plateRefusal n) _ e in
-      let length = before-none (when (not (eqb size (lengthOf p))) wrongBuffer) _ (plate .1) in
-      (plate .0, eqb-true _ _ (when-none _ 12 (length .0)), length .1)
+  passed e = buffer-passed n size (lengthOf p) (parametersRefusal n p) e
 
   pub right-length : (k : ℕ) → k ≡ 0 → k ≡ writeRefusal n p size → size ≡ lengthOf p
   right-length k none k-is = passed (sym k-is ∙ none) .1

@@ -1,7 +1,7 @@
 -- The writer of both classes (document 01, "Class 2 telegram", "Class 4 block"; row 13 of "When a call is turned away").
-use Rattle.integer.specs.Base.{ℕ, not, List, [], _∷_, _++_, eqb, length}
+use Rattle.integer.specs.Base.{ℕ, List, [], _∷_, _++_, length}
 use Rattle.integer.specs.{part, octets}
-use Rattle.encoder.specs.{Nameplate, Units, Parameters, Class2, Class4, wrongBuffer, when, _before_, answer, plateRefusal, parametersRefusal}
+use Rattle.encoder.specs.{Nameplate, Units, Parameters, Class2, Class4, answer, bufferRefusal, parametersRefusal}
 use Rattle.parameters_writer.specs.{declared.Written.Written, declared.Written.the-variants.Done, declared.Written.the-variants.Refused}
 
 -- the length of the parameters' class
@@ -24,7 +24,7 @@ octetsOf ident (Class4 operating units range life speed) b = blockOf operating u
 
 -- the refusal for a buffer of so many octets, in the order 7, 13, 3, 4, 5, 6
 unfoldable pub writeRefusal : Nameplate → Parameters → ℕ → ℕ
-writeRefusal n p size = plateRefusal n before when (not (eqb size (lengthOf p))) wrongBuffer before parametersRefusal n p
+writeRefusal n p size = bufferRefusal n size (lengthOf p) (parametersRefusal n p)
 
 -- the answer, and the buffer as the writer leaves it: filled, or as it was
 abbrev pub written : Nameplate → Parameters → List ℕ → Written

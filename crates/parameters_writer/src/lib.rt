@@ -4,9 +4,6 @@ ghost use Rattle.parameters_writer.specs.{lengthOf, telegramOf, blockOf,
 use encoder::nameplate::Nameplate;
 use encoder::parameters::Parameters;
 use encoder::quantity::Units;
-use encoder::refusal;
-use encoder::refusal::first;
-use encoder::refusal::when;
 use octets::put_number;
 
 pub enum Written {
@@ -31,11 +28,7 @@ pub fn write_parameters(plate: Nameplate, parameters: Parameters, buffer: &mut [
 fn refusal_of(plate: Nameplate, parameters: Parameters, size: usize) -> u8
     ensures { λ r. ⌜ r ≡ writeRefusal plate parameters size ⌝ }
 {
-    let size_wrong = when(size != len(parameters), refusal::BUFFER);
-    first(
-        plate.refusal(),
-        first(size_wrong, parameters.refusal(plate)),
-    )
+    plate.buffer_refusal(size, len(parameters), parameters.refusal(plate))
 }
 
 // How many octets the parameters take.

@@ -2,5 +2,5 @@ use Rattle.parameters_writer.proofs.{WriteLaws.write-number, WriteLaws.
 
 pub refusal-of-spec : {M : Type 1} → statement M
 refusal-of-spec = close (spec
-    (λ c κs. search needs) (λ c κs. search needs) (λ c κs. search needs) (λ c κs. search needs) (λ c κs. search needs) (λ c κs. search needs)
-    (λ c. let calls = c .before .before in rw (c .first2 .ensures, c .before .first .ensures, calls .refusal2 .ensures, calls .before .refusal .ensures, calls .before .before .when .ensures, calls .before .before .before .len .ensures) (write-number _ _ _)))
+    (λ c κs. search needs) (λ c κs. search needs) (λ c κs. search needs)
+    (λ c. let calls = c .before in rw (c .buffer-refusal .ensures, calls .refusal .ensures, calls .before .len .ensures) (write-number _ _ _)))
