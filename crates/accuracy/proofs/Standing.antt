@@ -6,7 +6,7 @@ use Rattle.axis_shaft.specs.{moveRefusal, movedTo, refusalIn}
 use Rattle.axis.specs.{Axis, rulesOn, positionOf, reported, atRaw}
 use Rattle.axis.proofs.{Limits, singly, raw-kept}
 use Rattle.axis_batch.specs.{after, positionsOf}
-use Rattle.accuracy.specs.{Device, force, Ledger.Ledger, Deed, withReadings, noted, Shows, Supposed, Agrees, Entries, number, Rule6, readSingly, State, ours}
+use Rattle.accuracy.specs.{Device, force, Ledger.Ledger, Deed, withReadings, noted, TrueSteps, Supposed, Agrees, Entries, number, Rule6, readSingly, State, ours}
 use Rattle.accuracy.proofs.{Kept.Kept, Kept.agrees, Kept.kept-move, Supposed.went}
 
 -- the device and the ledger of a state, p and g
@@ -36,7 +36,7 @@ module _ (s : State) (p : ℕ) (g : ℤ) (lim : Limits (s .axis)) (k : Keeps s p
   stands-agrees = agrees (deviceOf (s .axis)) (lim .shaft .sound) (ledgerOf s p g) (s .axis .shaft) (s .axis .offset) k
 
   -- ---- a raw number that is accepted
-  pub stands-moved : (raw : ℕ) (m : ℕ → ℤ) → Shows (deviceOf (s .axis)) (s .axis .shaft .last .0) raw (m 0)
+  pub stands-moved : (raw : ℕ) (m : ℕ → ℤ) → TrueSteps (deviceOf (s .axis)) (s .axis .shaft .last .0) raw (m 0)
       → Matches (deviceOf (s .axis)) (onward s (atRaw (s .axis) raw)) (withReadings (ledgerOf s p g) (raw ∷ []) m)
   unfolding atRaw movedTo withReadings rulesOn
   stands-moved raw m h =

@@ -6,7 +6,7 @@ use Rattle.encoder.specs.{Sound}
 use Rattle.encoder.proofs.{before-none}
 use Rattle.axis_shaft.specs.{oriented, difference, moveOf, moveRefusal, refusalIn}
 use Rattle.axis_shaft.proofs.{shorter-way, shorter-only}
-use Rattle.accuracy.specs.{Device, force, Shows, Supposed}
+use Rattle.accuracy.specs.{Device, force, TrueSteps, Supposed}
 
 -- rule 3's d, for raw numbers one after the other
 abbrev pub steps : Device → ℕ → List ℕ → ℕ → ℤ
@@ -16,7 +16,7 @@ steps d last (raw ∷ raws) (suc i) = steps d raw raws i
 
 module _ (d : Device) (s : Sound (force d)) where
   -- the shorter way is the way that the shaft went
-  pub went : (last raw : ℕ) (m : ℤ) → Shows d last raw m → moveOf (force d) last raw ≡ m
+  pub went : (last raw : ℕ) (m : ℤ) → TrueSteps d last raw m → moveOf (force d) last raw ≡ m
   unfolding difference
   went last raw m h =
       let f = force d in
@@ -28,7 +28,7 @@ module _ (d : Device) (s : Sound (force d)) where
       shorter-only f last raw m (omega (signed, h .small)) e
 
   -- and the shorter way is as supposed
-  found : (last raw : ℕ) → moveRefusal (force d) last raw ≡ 0 → Shows d last raw (moveOf (force d) last raw)
+  found : (last raw : ℕ) → moveRefusal (force d) last raw ≡ 0 → TrueSteps d last raw (moveOf (force d) last raw)
   unfolding difference
   found last raw e =
       let f = force d in

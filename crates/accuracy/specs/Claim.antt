@@ -36,14 +36,14 @@ pub record Event : Type 0 where
   pub steps : ℕ → ℤ
 
 -- ---- supposed of each m: −C/2 < m < C/2, and m equals the difference of the two oriented numbers up to a multiple of C
-pub record Shows (d : Device) (last raw : ℕ) (m : ℤ) : Type 0 where
+pub record TrueSteps (d : Device) (last raw : ℕ) (m : ℤ) : Type 0 where
   pub small : 2 * natAbs m < force d .capacity .0
   pub times : ℤ
   pub same : m ≡ (pos (oriented (force d) raw) -ℤ pos (oriented (force d) last)) +ℤ times *ℤ pos (force d .capacity .0)
 
 unfoldable pub Supposed : Device → ℕ → List ℕ → (ℕ → ℤ) → Type 0
 Supposed d last [] m = Unit
-Supposed d last (raw ∷ raws) m = Shows d last raw (m 0) × Supposed d raw raws (λ i. m (suc i))
+Supposed d last (raw ∷ raws) m = TrueSteps d last raw (m 0) × Supposed d raw raws (λ i. m (suc i))
 
 -- ---- for some whole w, −R < R × (reported − p − w × L) − g × M < R
 abbrev pub off : Device → Ledger → ℕ → ℤ → ℤ

@@ -9,7 +9,7 @@ pub use Calls.{Call, First, batching, cycling, firstNumber, firstReading, preset
 unfoldable pub use Ledger.{withReadings}
 pub use Ledger.{Deed, Device, cyclePreset, deed, does, firstRaw, force, made, moves, none, noted, opened, preset2, preset4, put, refusalBy, rises, startBy}
 unfoldable pub use Claim.{Accurate, Entries, Supposed, readSingly}
-pub use Claim.{Agrees, Event, Lent, Program, Reports, Rule6, Shown, Shows, number, off}
+pub use Claim.{Agrees, Event, Lent, Program, Reports, Rule6, Shown, TrueSteps, number, off}
 pub use Run.{State, begin, both, lentBy, library, to, yields}
 pub use Worthless.{addsRounded, always0, alwaysAbsolute, at, claimsHalfRange, copiesFirst, cutsPlace, forgetsLink, ignoresPresets, ignoresReadings, presetsWhenFaulty, scalesAfresh, showsFresh, turnsAway, wrapsAtC}
 pub use Ours.{ours}

@@ -7,7 +7,7 @@ use Rattle.axis_shaft.specs.{Reported, At as Found, declared.Reported.the-varia
 use Rattle.axis_offset.specs.{valueRefusal}
 use Rattle.axis.specs.{Axis, rulesOn, acceptable, axisRefusal, positionOf, unshiftedOf, reported, next, atRaw, readRaw, presetRefusal, presetted, preset as presetOn}
 use Rattle.axis.proofs.{Limits, limits-of, limits-none, singly}
-use Rattle.accuracy.specs.{Call, rawReading, presetting, Device, force, Ledger.Ledger, refusalBy, made, does, withReadings, put, noted, Event, Shows, Supposed}
+use Rattle.accuracy.specs.{Call, rawReading, presetting, Device, force, Ledger.Ledger, refusalBy, made, does, withReadings, put, noted, Event, TrueSteps, Supposed}
 use Rattle.accuracy.specs.{number, Reports, Rule6, readSingly, Accurate, yields, library}
 use Rattle.axislog_forms.specs.{Read, Preset}
 use Rattle.axislog_state.specs.{Started, State, positionAnswer, position, taken, after}
@@ -60,7 +60,7 @@ module _ (d : Device) (l : Ledger) (a : Axis) (g : Going d l a) where
     startedState = record { stage = Started; axis = a }
 
     -- ---- a reading
-    read-goes : (raw : ℕ) → refusalBy d l (rawReading raw) ≡ 0 → Shows d (l .last) raw m → Going d (withReadings l (raw ∷ []) (λ i. m)) (atRaw a raw)
+    read-goes : (raw : ℕ) → refusalBy d l (rawReading raw) ≡ 0 → TrueSteps d (l .last) raw m → Going d (withReadings l (raw ∷ []) (λ i. m)) (atRaw a raw)
     unfolding Supposed withReadings atRaw movedTo
     read-goes raw z h =
         record { is = g .is; last = refl; accurate = goes-on (rawReading raw) (atRaw a raw) z (rw (read-is raw, z)) (h, tt) }

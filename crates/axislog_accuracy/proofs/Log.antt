@@ -1,4 +1,4 @@
--- THE THEOREM: what is claimed of every log program in specs/Printed.antt holds of axislog. Line by line, each form by its own law: state and book
+-- THE THEOREM: what is claimed of every log program in specs/Log.antt holds of axislog. Line by line, each form by its own law: state and book
 -- stand beside each other before the first line, and each line leaves them so.
 use Rattle.integer.specs.Base.{refl, List, [], _∷_, ℤ}
 use Rattle.encoder.specs.{refusalOn}

@@ -10,12 +10,12 @@
 -- It supposes, as the distance rule does, of each raw number taken after the first: the shaft has truly moved by m steps since the one before, by less
 -- than half the sensor's range either way, and the sensor shows where it came to.
 --
--- The claim is of any log program, and sees only its answer to each line. Printed.antt in proofs/ proves it of axislog; Worthless.antt
+-- The claim is of any log program, and sees only its answer to each line. Log.antt in proofs/ proves it of axislog; Worthless.antt
 -- there refutes it of a program that refuses every line, of one that always shows 0, and of one that ignores presets.
 use Rattle.integer.specs.Base.{_≡_, false, List, [], _∷_, ℕ, ℤ}
 use Rattle.integer.specs.{_modulo_}
 use Rattle.encoder.specs.{noForm, noAxis, answer, refusalOn}
-use Rattle.accuracy.specs.{firstNumber, rawReading, presetting, Device, force, Ledger.Ledger, startBy, opened, refusalBy, made, withReadings, put, Shows, Agrees}
+use Rattle.accuracy.specs.{firstNumber, rawReading, presetting, Device, force, Ledger.Ledger, startBy, opened, refusalBy, made, withReadings, put, TrueSteps, Agrees}
 use Rattle.axislog_forms.specs.{Setup, Form, Axis, Read, Preset, Nothing, form}
 use Rattle.axislog_answers.specs.{Answer, Ready, At, Refused}
 use Rattle.axislog_state.specs.{plateOf, parametersOf}
@@ -62,7 +62,7 @@ due (Preset v) (kept d l) = answer refusal (preset d l v) (refusalBy d l (preset
 
 -- ---- supposed of m, where a raw number is taken after the first
 abbrev pub Moves : Due → ℤ → Type 0
-Moves (reading d l raw) m = Shows d (l .last) raw m
+Moves (reading d l raw) m = TrueSteps d (l .last) raw m
 Moves (refusal n) m = Unit
 Moves (ready d) m = Unit
 Moves (first d raw) m = Unit

@@ -52,11 +52,11 @@ module _ (n : Nameplate) (f : Fields) (fits : plateRefusal n ≡ 0) (none : fiel
   unfolding fieldsRefusal
   bounds true on =
       let p = plated n fits in
-      let three = before-none (when (reservedWrong (f .class4) (f .operating)) reservedBit) _ none in
-      let class4 = before-none (when (unitsWrong n f) revolutionUnits) _ (three .1) in
-      let five = before-none (when (rangeWrong n f) totalRange) _ (class4 .1) in
-      let u = or-split _ _ (rw on at (when-not (unitsWrong n f) 3 (class4 .0))) in
-      let r = or-split _ _ (rw on at (when-not (rangeWrong n f) 4 (five .0))) in
+      let past3 = before-none (when (reservedWrong (f .class4) (f .operating)) reservedBit) _ none in
+      let past4 = before-none (when (unitsWrong n f) revolutionUnits) _ (past3 .1) in
+      let past5 = before-none (when (rangeWrong n f) totalRange) _ (past4 .1) in
+      let u = or-split _ _ (rw on at (when-not (unitsWrong n f) 3 (past4 .0))) in
+      let r = or-split _ _ (rw on at (when-not (rangeWrong n f) 4 (past5 .0))) in
       let a = eqb-false (f .units .0) 0 (u .0) in
       let b = ltb-false (n .steps .0) (f .units .0) (u .1) in
       let c = ltb-false (f .range .0) (f .units .0) (r .0) in

@@ -33,15 +33,15 @@ taken : refusal listing ≡ 0
 unfolding startRawRefusal refusalOn plateRefusal fieldsRefusal refusalIn moveRefusal difference oriented _modulo_ rulesOf
 taken = refl
 
-shown : Supposed (device listing) 28 (4 ∷ 10 ∷ []) steady
+supposed : Supposed (device listing) 28 (4 ∷ 10 ∷ []) steady
 unfolding Supposed difference oriented _modulo_ rulesOf
-shown = (record { small = omega arith; times = pos 1; same = refl }, (record { small = omega arith; times = pos 0; same = refl }, tt))
+supposed = (record { small = omega arith; times = pos 1; same = refl }, (record { small = omega arith; times = pos 0; same = refl }, tt))
 
 no-repeats : (position : Arguments → ℕ) → Claim (repeats position) → ⊥
 unfolding Entries withReadings oriented rulesOf
 no-repeats position h =
     let x = position listing in
-    let e = h listing .1 (h listing .0 ∙ taken) steady shown .1 in
+    let e = h listing .1 (h listing .0 ∙ taken) steady supposed .1 in
     let one = told (device listing) _ x (e .0) in
     let two = told (device listing) _ x (e .1 .0) in
     omega arith

@@ -4,10 +4,10 @@ use Rattle.axis_shaft.proofs.{BatchLaws.Going, BatchLaws.walks, SensorL
 use Rattle.axis_shaft.proofs.{Shaft.follow.Tie.spec, Shaft.follow.Tie.InvT-loop, Shaft.follow.Tie.MeasureT-loop}
 
 abbrev Inv-loop : InvT-loop
-Inv-loop rules offset raws positions₀ travel₀ i₀ positions shaft i = (i ≤ length raws) × (length positions ≡ length positions₀) × Going rules (toZ w64 offset) travel₀ raws shaft i positions
+Inv-loop rules offset raws positions₀ shaft₀ i₀ positions shaft i = (i ≤ length raws) × (length positions ≡ length positions₀) × Going rules (toZ w64 offset) shaft₀ raws shaft i positions
 
 abbrev μ-loop : MeasureT-loop
-μ-loop rules offset raws positions₀ travel₀ i₀ positions shaft i = length raws - i
+μ-loop rules offset raws positions₀ shaft₀ i₀ positions shaft i = length raws - i
 
 pub follow-spec : {M : Type 1} → statement M
 follow-spec = close (spec
