@@ -7,9 +7,14 @@ pub data First : Type 0 where
   firstNumber : (raw : ℕ) → First
 
 pub data Call : Type 0 where
+  -- a reading, by step and turn or by raw number
   reading : (step turn : ℕ) → Call
   rawReading : (raw : ℕ) → Call
+  -- a batch, document 01's pass: raw numbers, and the lent list of positions
   batching : (raws positions : List ℕ) → Call
+  -- a preset of v, absolute or relative
   presetting : (v : ℤ) (relative : Bool) → Call
+  -- v becomes the held preset value
   storing : (v : ℤ) → Call
+  -- a cycle: raw number, output octets, and the lent input octets
   cycling : (raw : ℕ) (output input : List ℕ) → Call

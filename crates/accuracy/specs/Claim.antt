@@ -9,11 +9,11 @@
 -- zero. And each preset puts the position where rule 6 says.
 --
 -- The claim is of any program, and sees only the positions that the program reports. The ledger that keeps p and g (Ledger.antt) gets the calls and the
--- true steps; it asks the program for one thing, the position just after a preset, which rule 6 settles. So no program of document 01's table meets the
--- claim. A program that always shows 0, turns calls away, claims half range or ignores readings breaks it as soon as the shaft has moved by a unit; one
--- that ignores presets, by rule 6; one that copies a pass's first position on, at the second entry; one that scales the raw number afresh, when the
--- sensor begins again; one that adds rounded moves, when the parts cut off come to a unit. Worthless.antt in proofs/ refutes each of these, and
--- Accuracy.antt proves the claim of ours.
+-- true steps; it asks the program for one thing, the position just after a preset, which rule 6 settles. So the programs that document 01 would send back
+-- do not meet the claim. A program that always shows 0, turns calls away, claims half range or ignores readings breaks it as soon as the shaft has moved by
+-- a unit. A program that ignores presets breaks rule 6. A program that copies the first position of a batch on breaks the claim at the second entry, one
+-- that scales the raw number afresh breaks it when the sensor begins again, and one that adds rounded moves when the parts cut off come to a unit.
+-- Worthless.antt in proofs/ refutes each of these, and Accuracy.antt proves the claim of ours.
 use Rattle.integer.specs.Base.{_≡_, true, false, List, [], _∷_, ℕ, suc, _*_, _<_, ℤ, pos, negℤ, natAbs, _+ℤ_, _-ℤ_, _*ℤ_, _<ℤ_}
 use Rattle.integer.specs.{bit, _modulo_, part, bigEndian}
 use Rattle.encoder.specs.{Nameplate, Parameters, fieldsOf}
@@ -65,7 +65,7 @@ abbrev pub Reports : Device → Ledger → Reported → Type 0
 Reports d l (At position unshifted) = Agrees d l (position .0)
 Reports d l (Refused n) = ⊥
 
--- in each pass entry, at its own moment
+-- in each entry of a batch, at its own moment
 unfoldable pub Entries : Device → Ledger → List ℕ → (ℕ → ℤ) → List ℕ → Type 0
 Entries d l [] m xs = Unit
 Entries d l (raw ∷ raws) m [] = ⊥

@@ -1,5 +1,5 @@
 -- The ledger (document 01, "The distance rule", its second paragraph). It is fed the arguments of the calls, the true steps m beside each
--- accepted raw number, and one answer, the position just after a preset. It settles by the table and the rules what is accepted and whether a
+-- accepted raw number, and one answer, the position just after a preset. By the table of refusals and the rules it settles what is accepted and whether a
 -- preset is made: it keeps the last accepted raw number, the held preset value and the link state itself, and never looks at an axis record.
 use Rattle.integer.specs.Base.{Bool, false, cond, not, _&&_, List, [], _∷_, ℕ, suc, eqb, ltb, ℤ, pos, _+ℤ_, length}
 use Rattle.encoder.specs.{Nameplate, Parameters, InForce, wrongBuffer, when, _before_, answer, fieldsOf, rulesOf}

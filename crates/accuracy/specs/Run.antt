@@ -1,5 +1,5 @@
--- What the library makes of the calls: the definitions that its contracts cite. Axis and link record, the latter all 0 at first, go from call to
--- call as left.
+-- What the library makes of the calls: the definitions that its contracts cite. The link record is all 0 at first, and each call gets axis and link as
+-- the call before has left them.
 use Rattle.integer.specs.Base.{List, [], ℕ}
 use Rattle.encoder.specs.{Nameplate, Parameters}
 use Rattle.axis.specs.{Axis, Next, reported, start, startRaw, readRaw, read, preset, store}
