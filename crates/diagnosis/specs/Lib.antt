@@ -1,3 +1,3 @@
 pub mod Diagnosis
-unfoldable pub use Diagnosis.{complement, general, identity, operatingOctet, report, values, versions}
+unfoldable pub use Diagnosis.{general, identity, operatingOctet, report, values, versions}
 pub use Diagnosis.{diagnosis, diagnosisOctets, diagnosisRefusal, fourNumbers, lengthBy}

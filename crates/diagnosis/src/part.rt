@@ -1,7 +1,7 @@
 // The four parts of the diagnosis, each in its own stretch of the buffer.
 ghost use Rattle.integer.specs.Base.{_≡_, length};
 ghost use Rattle.axis.specs.{Ready};
-ghost use Rattle.diagnosis.specs.{operatingOctet, general, versions, complement, fourNumbers, values, identity};
+ghost use Rattle.diagnosis.specs.{operatingOctet, general, versions, fourNumbers, values, identity};
 use crate::size;
 use axis::Axis;
 use cyclic_link::Link;
@@ -9,6 +9,7 @@ use encoder::effect::InForce;
 use encoder::nameplate::Nameplate;
 use encoder::parameters::Fields;
 use octets::put_number;
+use ring::complement;
 
 // Octets 7 to 16.
 pub(crate) fn fill_general(axis: Axis, link: Link, rules: InForce, part: &mut [u8])
@@ -67,13 +68,6 @@ fn put_four(first: u32, second: u32, third: u32, fourth: u32, part: &mut [u8])
     put_number(&mut part[4..8], second);
     put_number(&mut part[8..12], third);
     put_number(&mut part[12..16], fourth);
-}
-
-// Two's complement: a ring of 2^32 places.
-fn complement(z: i64) -> u32
-    ensures { λ r. ⌜ r ≡ complement z ⌝ }
-{
-    ring::add(0, z, 0x1_0000_0000) as u32
 }
 
 // Octets 48 to 63.

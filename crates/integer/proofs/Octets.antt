@@ -88,6 +88,14 @@ number-next s t j a b n h room e =
     let long : b ≤ length (drop a t) = rw length-drop (omega arith) in
     e ∙ rw (drop-at s (drop a t) a h, length-take-le b (drop a t) long)
 
+-- a part, and a number behind it
+pub then-number : (a b : ℕ) (t i j : List ℕ) (n : ℕ) → length t ≡ a + b → length i ≡ a
+    → j ≡ octets (length (take b (drop a (i ++ postOf 0 a t)))) n
+    → putMid a b (i ++ postOf 0 a t) j ≡ i ++ octets b n
+then-number a b t i j n h hi e =
+    let js = number-next i t j a b n hi (omega arith) e in
+    rw (put-next i j t a b hi, ← h, drop-length t, append-nil, js)
+
 pub four-numbers : (a b c d : ℕ) (t i j k l : List ℕ) (w x y z : ℕ) → length t ≡ a + b + c + d
     → i ≡ octets (length (take a t)) w
     → j ≡ octets (length (take b (drop a (i ++ postOf 0 a t)))) x

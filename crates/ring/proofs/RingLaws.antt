@@ -1,11 +1,11 @@
 -- The functions on a ring give the remainder by n: a number and its place differ by a multiple of n.
 pub use borrow.Author.Needs.{needs}
 use Rattle.integer.specs.Base.{_≡_, refl, sym, _∙_, Bool, true, false, cond, _&&_, and-true, true≢false, ℕ, zero, suc, _+_, _-_, _*_, _/_, _%_, _≤_, _<_, _^_, arith}
-use Rattle.integer.specs.Base.{T, ltb, ℤ, pos, negsuc, natAbs, _+ℤ_, _-ℤ_, +ℤ-idl, ltZ, nonNeg, lt-ltb, le-ltb, ltb-true, ltb-false, ne-eqb, eq-eqb, w64, w32, Fits}
+use Rattle.integer.specs.Base.{T, ltb, leb, ℤ, pos, negsuc, natAbs, _+ℤ_, _-ℤ_, +ℤ-idl, ltZ, nonNeg, lt-ltb, le-ltb, ltb-true, ltb-false, leb-true, ne-eqb, eq-eqb, w64, w32, Fits}
 use Rattle.integer.specs.Base.{SFits, toZ, ofZ, toZ-pos}
 use Rattle.integer.specs.{_modulo_}
-use Rattle.integer.proofs.{signed, above, below, apart, add-is, diff-is, abs-is, abs-diff, reads, fits-abs, to-nat, modulo-is, modulo-alike}
-use Rattle.ring.specs.{onRing, inRange}
+use Rattle.integer.proofs.{signed, above, below, apart, add-is, diff-is, abs-is, abs-diff, reads, fits-abs, to-nat, modulo-is, modulo-alike, modulo-lt}
+use Rattle.ring.specs.{onRing, inRange, complement}
 use native.Mathlib.Nat as N
 
 pub on-ring : (z : ℤ) (n : ℕ) → 0 < n → onRing z n ≡ z modulo n
@@ -59,6 +59,17 @@ module _ (place n from by m r : ℕ) (d : ℤ) (fits : SFits w64 d) (from-is : f
   pub add-on : (on : ℕ) → r ≡ onRing (pos from +ℤ pos on) n → on ≡ cond (ltZ (toZ w64 (ofZ w64 d)) (pos 0)) (n - by) by
       → m ≡ natAbs (toZ w64 (ofZ w64 d)) → r ≡ onRing (pos place +ℤ d) n
   add-on on r-is on-is m-is = by-way (ltZ (toZ w64 (ofZ w64 d)) (pos 0)) refl (rw on-is at r-is) m-is
+
+-- ---- two's complement: a ring of 2^32 places, or of fewer, has places of 32 bits
+pub complement-is : (z : ℤ) (n : ℕ) → SFits w64 z → n ≡ onRing (pos 0 +ℤ toZ w64 (ofZ w64 z)) (2 ^ 32) → n ≡ complement z
+unfolding complement
+complement-is z n fits n-is = n-is ∙ rw (on-ring (pos 0 +ℤ toZ w64 (ofZ w64 z)) (2 ^ 32) (omega arith), reads fits, +ℤ-idl z)
+
+pub complement-fits : (z : ℤ) (m n : ℕ) → ltb 0 m ≡ true → leb m (2 ^ 32) ≡ true → n ≡ onRing z m → Fits w32 n
+complement-fits z m n some most n-is =
+    let h = ltb-true 0 m some in
+    let lt : n < m = rw (n-is, on-ring z m h) (modulo-lt z h) in
+    record { fits = omega (arith, leb-true m (2 ^ 32) most) }
 
 -- ---- back by k is ahead by n − k
 module _ (d : ℤ) (by n : ℕ) (fits : SFits w64 d) where
@@ -147,4 +158,4 @@ pub between-is : (z : ℤ) (n : ℕ) → SFits w64 z → Fits w32 n
 unfolding inRange
 between-is z n f h = rw (reads (end-fits (pos 0) n (omega arith) h), read-end n h, reads f) (both-ends z n)
 
-pub ruleset rings = (on-none, ahead-on, ahead-round, forward-back, forward-ahead, add-on, rest-is, rest-lt, end-fits, between-is)
+pub ruleset rings = (on-none, ahead-on, ahead-round, forward-back, forward-ahead, add-on, rest-is, rest-lt, complement-is, complement-fits, end-fits, between-is)

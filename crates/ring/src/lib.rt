@@ -1,6 +1,6 @@
 // Counting around a ring of n places, 0 to n - 1.
 ghost use Rattle.integer.specs.Base.{_≡_, cond, _-_, _<_, _≤_, _%_, pos, natAbs, _+ℤ_, ltZ};
-ghost use Rattle.ring.specs.{onRing, inRange};
+ghost use Rattle.ring.specs.{onRing, inRange, complement};
 
 // The place d further on; a negative d goes back.
 pub fn add(place: u64, d: i64, n: u64) -> u64
@@ -12,6 +12,13 @@ pub fn add(place: u64, d: i64, n: u64) -> u64
     let from = rest(place, n);
     let by = rest(magnitude(d), n);
     ahead(from, forward(d, by, n), n)
+}
+
+// Two's complement in 32 bits: a ring of 2^32 places.
+pub fn complement(z: i64) -> u32
+    ensures { λ r. ⌜ r ≡ complement z ⌝ }
+{
+    add(0, z, 0x1_0000_0000) as u32
 }
 
 // v lies strictly between -n and n.
