@@ -5,4 +5,4 @@ pub mod ShaftLaws
 pub mod BatchLaws
 pub use SensorLaws.{by-refused, by-taken, move-fits, move-most, raw-lt}
 pub use ShorterWay.{shorter-only, shorter-way}
-pub use ShaftLaws.{begun-by, inside-is, inside-true, moved-kept, nowhere-out, read-refusal, reported-is, started-kept, to-refused, to-taken}
+pub use ShaftLaws.{begun-by, by-to-refused, by-to-taken, inside-is, inside-true, moved-kept, nowhere-out, read-refusal, reported-is, started-kept, to-refused, to-taken}

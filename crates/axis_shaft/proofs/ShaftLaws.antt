@@ -4,10 +4,11 @@ use Rattle.integer.specs.Base.{ltb-true, le-leb, lt-leb, w64, SFits, toZ, ofZ}
 use Rattle.integer.proofs.{reads, modulo-lt}
 use Rattle.encoder.specs.{Units, InForce, wrongTurn, noAxis, when, answer, rulesFit, Sound}
 use Rattle.encoder.proofs.{refused-is, before-none, when-none, and-split, sound-of, fits-of}
-use Rattle.axis_shaft.specs.{Shaft, Moved, To, declared.Moved.the-variants.Refused as NotMoved, Approach, By}
+use Rattle.axis_shaft.specs.{Shaft, Moved, To, declared.Moved.the-variants.Refused as NotMoved, MovedBy, declared.MovedBy.the-variants.To as ToBy}
+use Rattle.axis_shaft.specs.{declared.MovedBy.the-variants.Refused as NotMovedBy, Approach, By}
 use Rattle.axis_shaft.specs.{declared.Approach.the-variants.Refused as NotApproached, At, declared.Reported.the-variants.Refused, period, inside, Inside}
 use Rattle.axis_shaft.specs.{nowhere, oriented, started, moveOf, moveRefusal, movedTo, unshifted, positionAt, approachFrom, beginRefusal, begun, shaftRefusal}
-use Rattle.axis_shaft.specs.{approached, moved, reportedAt}
+use Rattle.axis_shaft.specs.{approached, moved, movedBy, reportedAt}
 use Rattle.axis_shaft.proofs.{SensorLaws.move-fits, SensorLaws.raw-lt, SensorLaws.by-taken, SensorLaws.by-refused, PlaceLaws.period-least}
 use native.Mathlib.Nat as N
 
@@ -132,7 +133,19 @@ module _ (f : InForce) (k : Shaft) (raw : ℕ) (e : Approach) (e-is : e ≡ appr
       let i = by-refused e (moveOf f (k .last .0) raw) (shaftRefusal f k raw) n h e-is in
       rw (i .0, refused-is NotMoved (To (movedTo f k raw)) n (i .1))
 
-pub ruleset moves = (moved-inside, moved-lt, moved-by, moved-to, moved-no)
+  -- the same, with the move
+  module _ (d : ℤ) (h : e ≡ By d) where
+    pub moved-by-to : (m : Shaft) → m ≡ movedTo f k raw → ToBy m (toZ w64 (ofZ w64 d)) ≡ movedBy f k raw
+    unfolding movedBy
+    moved-by-to m m-is = rw (approach-taken d h .0, m-is, moved-by d h)
+
+  pub moved-by-no : (n : ℕ) → e ≡ NotApproached n → NotMovedBy n ≡ movedBy f k raw
+  unfolding approached movedBy
+  moved-by-no n h =
+      let i = by-refused e (moveOf f (k .last .0) raw) (shaftRefusal f k raw) n h e-is in
+      rw (i .0, refused-is NotMovedBy (ToBy (movedTo f k raw) (moveOf f (k .last .0) raw)) n (i .1))
+
+pub ruleset moves = (moved-inside, moved-lt, moved-by, moved-to, moved-no, moved-by-to, moved-by-no)
 
 -- ---- from the answers back to the numbers
 pub to-taken : (e : Moved) (k m : Shaft) (n : ℕ) → e ≡ To m → e ≡ answer NotMoved (To k) n → (n ≡ 0) × (m ≡ k)
@@ -142,6 +155,14 @@ to-taken e k m (suc n) t e-is = let h : To m ≡ NotMoved (suc n) = sym t ∙ e-
 pub to-refused : (e : Moved) (k : Shaft) (n j : ℕ) → e ≡ NotMoved j → e ≡ answer NotMoved (To k) n → (n ≡ j) × (j ≡ 0 → ⊥)
 to-refused e k zero j t e-is = let h : NotMoved j ≡ To k = sym t ∙ e-is in let z : _≡_ {A = ℕ} 0 1 = cc in absurd (omega arith)
 to-refused e k (suc n) j t e-is = let h : NotMoved j ≡ NotMoved (suc n) = sym t ∙ e-is in let z : suc n ≡ j = cc in (z, λ w. omega arith)
+
+pub by-to-taken : (e : MovedBy) (k m : Shaft) (z d : ℤ) (n : ℕ) → e ≡ ToBy m d → e ≡ answer NotMovedBy (ToBy k z) n → (n ≡ 0) × (m ≡ k) × (d ≡ z)
+by-to-taken e k m z d zero t e-is = let h : ToBy m d ≡ ToBy k z = sym t ∙ e-is in (refl, cc, cc)
+by-to-taken e k m z d (suc n) t e-is = let h : ToBy m d ≡ NotMovedBy (suc n) = sym t ∙ e-is in let w : _≡_ {A = ℕ} 0 1 = cc in absurd (omega arith)
+
+pub by-to-refused : (e : MovedBy) (k : Shaft) (z : ℤ) (n j : ℕ) → e ≡ NotMovedBy j → e ≡ answer NotMovedBy (ToBy k z) n → (n ≡ j) × (j ≡ 0 → ⊥)
+by-to-refused e k z zero j t e-is = let h : NotMovedBy j ≡ ToBy k z = sym t ∙ e-is in let w : _≡_ {A = ℕ} 0 1 = cc in absurd (omega arith)
+by-to-refused e k z (suc n) j t e-is = let h : NotMovedBy j ≡ NotMovedBy (suc n) = sym t ∙ e-is in let w : suc n ≡ j = cc in (w, λ v. omega arith)
 
 module _ (f : InForce) (k : Shaft) (i : Inside f k) where
   pub read-refusal : (raw : ℕ) → shaftRefusal f k raw ≡ moveRefusal f (k .last .0) raw

@@ -1,12 +1,13 @@
 pub mod Rules
 pub mod Batch
-unfoldable pub use Rules.{approachFrom, approached, beginRefusal, begun, difference, inside, moveOf, moveRefusal, moved, movedTo, oriented, positionAt, reportedAt, shaftRefusal, shorter, started, unshifted}
+unfoldable pub use Rules.{approachFrom, approached, beginRefusal, begun, difference, inside, moveOf, moveRefusal, moved, movedBy, movedTo, oriented, positionAt, reportedAt, shaftRefusal, shorter, started, unshifted}
 pub use Rules.{Inside, halfRefusal, nowhere, period}
 unfoldable pub use Batch.{after, batchRefusal, batched, batchedList, positionsIn, refusalIn}
 pub use declared.Approach.{Approach}
 pub use declared.Approach.the-variants.{By}
 pub use declared.Moved.{Moved}
 pub use declared.Moved.the-variants.{To}
+pub use declared.MovedBy.{MovedBy}
 pub use declared.Reported.{Reported}
 pub use declared.Reported.the-variants.{At}
 pub use declared.Shaft.{Shaft}

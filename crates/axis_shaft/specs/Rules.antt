@@ -4,6 +4,7 @@ use Rattle.integer.specs.{_modulo_}
 use Rattle.encoder.specs.{InForce, wrongTurn, halfRange, noAxis, when, _before_, answer, rulesFit, Sound}
 use Rattle.axis_shaft.specs.{declared.Shaft.Shaft, declared.Moved.Moved, declared.Moved.the-variants.To, declared.Moved.the-variants.Refused as NotMoved}
 use Rattle.axis_shaft.specs.{declared.Approach.Approach, declared.Approach.the-variants.By, declared.Approach.the-variants.Refused as NotApproached}
+use Rattle.axis_shaft.specs.{declared.MovedBy.MovedBy, declared.MovedBy.the-variants.To as ToBy, declared.MovedBy.the-variants.Refused as NotMovedBy}
 use Rattle.axis_shaft.specs.{declared.Reported.Reported, declared.Reported.the-variants.At, declared.Reported.the-variants.Refused}
 
 -- R × L, steps × range. After so many steps place and position repeat: they are L turns, and M total ranges
@@ -83,6 +84,10 @@ approached f k raw = answer NotApproached (By (moveOf f (k .last .0) raw)) (shaf
 
 unfoldable pub moved : InForce → Shaft → ℕ → Moved
 moved f k raw = answer NotMoved (To (movedTo f k raw)) (shaftRefusal f k raw)
+
+-- the same with the move, for the velocity in the cycle (request 1)
+unfoldable pub movedBy : InForce → Shaft → ℕ → MovedBy
+movedBy f k raw = answer NotMovedBy (ToBy (movedTo f k raw) (moveOf f (k .last .0) raw)) (shaftRefusal f k raw)
 
 unfoldable pub reportedAt : InForce → ℤ → Shaft → Reported
 reportedAt f offset k = answer Refused (At (record { 0 = positionAt f offset k }) (record { 0 = unshifted f k })) (when (not (inside f k)) noAxis)

@@ -5,7 +5,7 @@ mod raw;
 
 ghost use Rattle.integer.specs.Base.{_≡_};
 ghost use Rattle.encoder.specs.{rulesFit};
-ghost use Rattle.axis_shaft.specs.{inside, begun, approached, moved, reportedAt, batchRefusal, batched, batchedList};
+ghost use Rattle.axis_shaft.specs.{inside, begun, approached, moved, movedBy, reportedAt, batchRefusal, batched, batchedList};
 use encoder::effect::InForce;
 use encoder::quantity::Steps;
 use encoder::quantity::Units;
@@ -30,6 +30,12 @@ pub enum Moved {
 
 pub enum Approach {
     By(i64),
+    Refused(u8),
+}
+
+// The shaft, and the move d that led there.
+pub enum MovedBy {
+    To { shaft: Shaft, d: i64 },
     Refused(u8),
 }
 
@@ -88,6 +94,19 @@ impl Shaft {
         match self.approach(rules, raw) {
             Approach::By(d) => Moved::To(self.advanced(rules, raw, d)),
             Approach::Refused(n) => Moved::Refused(n),
+        }
+    }
+
+    // The same, with the move: a velocity needs it, and it is worked out once.
+    pub fn moved_by(self, rules: InForce, raw: u32) -> MovedBy
+        ensures { λ r. ⌜ r ≡ movedBy rules self raw ⌝ }
+    {
+        match self.approach(rules, raw) {
+            Approach::By(d) => {
+                let shaft = self.advanced(rules, raw, d);
+                MovedBy::To { shaft, d }
+            }
+            Approach::Refused(n) => MovedBy::Refused(n),
         }
     }
 

@@ -3,19 +3,29 @@ ghost use Rattle.integer.specs.Base.{_≡_, _<_, _≤_, _^_, natAbs};
 ghost use Rattle.integer.specs.{clamp};
 ghost use Rattle.encoder.specs.{Sound};
 ghost use Rattle.axis.specs.{Ready};
-ghost use Rattle.axis_velocity.specs.{factorOf, least, greatest, rateOf, velocityAt};
+ghost use Rattle.axis_velocity.specs.{factorOf, least, greatest, rateOf, velocityAt, movedAt};
 use axis::Axis;
 use axis_shaft::Approach;
+use axis_shaft::MovedBy;
+use axis_shaft::Shaft;
 use encoder::effect::Effect;
 use encoder::effect::InForce;
 use encoder::quantity::Steps;
 use encoder::quantity::Turns;
 use encoder::refusal;
+use encoder::refusal::first;
+use encoder::refusal::when;
 use sensor::Reading;
 use sensor::raw_number;
 
 pub enum Speed {
     At(i32),
+    Refused(u8),
+}
+
+// The shaft after a new reading, and the velocity of its move.
+pub enum MovedAt {
+    To { shaft: Shaft, velocity: i32 },
     Refused(u8),
 }
 
@@ -44,6 +54,23 @@ fn measured(axis: Axis, rules: InForce, step: Steps, turn: Turns, elapsed: u16) 
             Approach::Refused(n) => Speed::Refused(n),
         },
         Reading::Refused(n) => Speed::Refused(n),
+    }
+}
+
+// Moves the shaft to a new reading, elapsed milliseconds after the last. The move is worked out once, for place and velocity.
+pub fn moved_at(shaft: Shaft, rules: InForce, raw: u32, elapsed: u16) -> MovedAt
+    ensures { λ r. ⌜ r ≡ movedAt rules shaft raw elapsed ⌝ }
+{
+    if elapsed == 0 {
+        let outside = when(!shaft.inside(rules), refusal::NO_AXIS);
+        return MovedAt::Refused(first(outside, refusal::ELAPSED));
+    }
+    match shaft.moved_by(rules, raw) {
+        MovedBy::To { shaft: here, d } => MovedAt::To {
+            shaft: here,
+            velocity: rate(rules, d, elapsed),
+        },
+        MovedBy::Refused(n) => MovedAt::Refused(n),
     }
 }
 
