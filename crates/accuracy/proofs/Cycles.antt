@@ -8,9 +8,9 @@ use Rattle.axis.proofs.{Limits, singly, reported-is, raw-kept}
 use Rattle.cyclic_link.specs.{Preset as Reacted, Class2.asked as asked2, Class2.made as made2, Class4.asked as asked4, held, Class4.made as made4, Classes.reaction}
 use Rattle.cyclic.specs.{faultyAt, takenAt, wordOf, counted, class4, wordBy, linkAfter}
 use Rattle.cyclic.proofs.{after-is}
-use Rattle.accuracy.specs.{cycling, none, made, Deed, rises, preset2, preset4, cyclePreset, withReadings, put, Supposed, Rule6, readSingly, State}
+use Rattle.accuracy.specs.{none, made, Deed, rises, preset2, preset4, cyclePreset, withReadings, put, Supposed, Rule6, readSingly, State}
 use Rattle.accuracy.proofs.{Standing.deviceOf, Standing.ledgerOf, Standing.Keeps, Standing.Matches, Standing.onward, Standing.stands-moved, Standing.Done}
-use Rattle.accuracy.proofs.{Presets.puts-by, Presets.stands-preset, Settled.goes}
+use Rattle.accuracy.proofs.{Presets.puts-by, Presets.stands-preset, Settled.left}
 use mathlib.{Core.Bool.and-false}
 
 -- ---- whether a preset is made: the link's test is the ledger's, and a faulty cycle makes none
@@ -39,7 +39,7 @@ preset-by s p g lim k v relative true = (stands-preset s p g lim v relative, put
 preset-by s p g lim k v relative false = (record { device = refl; ledger = refl; kept = k }, tt)
 
 -- ---- the cycle, by the number by which its raw number would be refused
-module _ (s : State) (p : ℕ) (g : ℤ) (lim : Limits (s .axis)) (k : Keeps s p g) (raw : ℕ) (output input : List ℕ) (m : ℕ → ℤ) where
+module _ (s : State) (p : ℕ) (g : ℤ) (lim : Limits (s .axis)) (k : Keeps s p g) (raw : ℕ) (output : List ℕ) (m : ℕ → ℤ) where
   abbrev deedBy : ℕ → Deed
   deedBy n =
       record {
@@ -50,7 +50,7 @@ module _ (s : State) (p : ℕ) (g : ℤ) (lim : Limits (s .axis)) (k : Keeps s p
       }
 
   pub cycle-by : (n : ℕ) → moveRefusal (rulesOn (s .axis)) (s .axis .shaft .last .0) raw ≡ n
-      → Supposed (deviceOf (s .axis)) (s .axis .shaft .last .0) (deedBy n .numbers) m → Done s (ledgerOf s p g) m (deedBy n) (goes s (cycling raw output input))
+      → Supposed (deviceOf (s .axis)) (s .axis .shaft .last .0) (deedBy n .numbers) m → Done s (ledgerOf s p g) m (deedBy n) (left s raw output)
   unfolding Supposed withReadings readSingly faultyAt takenAt atRaw movedTo rulesOn
   cycle-by zero e h =
       let a = s .axis in

@@ -14,30 +14,31 @@ position-lt : (a : Axis) → Limits a → positionOf a < 256 ^ 4
 unfolding positionOf positionAt
 position-lt a lim = let h : positionOf a < rulesOn a .span .0 = modulo-lt _ (lim .shaft .sound .span-least) in omega (arith, lim .shaft .sound .span-most)
 
--- ---- the octets: four alone, and four among others
-four-back : (x : ℕ) → x < 256 ^ 4 → bigEndian (part 1 4 (octets 4 x)) ≡ x
+-- ---- the octets: the first four, and four among others; more may stand behind them
+four-back : (x : ℕ) (more : List ℕ) → x < 256 ^ 4 → bigEndian (part 1 4 (octets 4 x ++ more)) ≡ x
 unfolding octets
-four-back x h = bigEndian-octets 4 x h
+four-back x more h = bigEndian-octets 4 x h
 
-third-back : (v w x y : ℕ) → x < 256 ^ 4 → bigEndian (part 5 8 (octets 2 v ++ octets 2 w ++ octets 4 x ++ octets 4 y)) ≡ x
+third-back : (v w x y : ℕ) (more : List ℕ) → x < 256 ^ 4 → bigEndian (part 5 8 (octets 2 v ++ octets 2 w ++ octets 4 x ++ octets 4 y ++ more)) ≡ x
 unfolding octets
-third-back v w x y h = bigEndian-octets 4 x h
+third-back v w x y more h = bigEndian-octets 4 x h
 
-fourth-back : (v w x y : ℕ) → y < 256 ^ 4 → bigEndian (part 9 12 (octets 2 v ++ octets 2 w ++ octets 4 x ++ octets 4 y)) ≡ y
+fourth-back : (v w x y : ℕ) (more : List ℕ) → y < 256 ^ 4 → bigEndian (part 9 12 (octets 2 v ++ octets 2 w ++ octets 4 x ++ octets 4 y ++ more)) ≡ y
 unfolding octets
-fourth-back v w x y h = bigEndian-octets 4 y h
+fourth-back v w x y more h = bigEndian-octets 4 y h
 
-pub shown : (s : State) (p : ℕ) (g : ℤ) → Limits (s .axis) → Keeps s p g → (output : List ℕ)
-    → Shown (deviceOf (s .axis)) (ledgerOf s p g) (inputOf (s .link) (s .axis) output)
+-- of every cycle, whatever stands behind: NIST_B in telegram 83, else nothing
+pub shown : (s : State) (p : ℕ) (g : ℤ) → Limits (s .axis) → Keeps s p g → (output more : List ℕ)
+    → Shown (deviceOf (s .axis)) (ledgerOf s p g) (inputOf (s .link) (s .axis) output ++ more)
 unfolding inputOf input2 input4
-shown s p g lim k output =
+shown s p g lim k output more =
     let a = s .axis in
     let t = stands-agrees s p g lim k in
     let lt = position-lt a lim in
-    let second : class4 (a .parameters) ≡ true → s .link .error ≡ false → bigEndian (part 9 12 (inputOf (s .link) a output)) ≡ positionOf a
-    = λ class well. rw (class, well) (fourth-back zsw2 (zsw _ (counted output)) (xist1 a) (positionOf a) lt) in
+    let second : class4 (a .parameters) ≡ true → s .link .error ≡ false → bigEndian (part 9 12 (inputOf (s .link) a output ++ more)) ≡ positionOf a
+    = λ class well. rw (class, well) (fourth-back zsw2 (zsw _ (counted output)) (xist1 a) (positionOf a) more lt) in
     record {
-      class2 = λ class. rw (class, four-back (positionOf a) lt) t;
-      xist1 = λ class plain. rw (class, plain, third-back zsw2 (zsw (s .link) (counted output)) (positionOf a) (xist2 (s .link) a) lt) t;
+      class2 = λ class. rw (class, four-back (positionOf a) more lt) t;
+      xist1 = λ class plain. rw (class, plain, third-back zsw2 (zsw (s .link) (counted output)) (positionOf a) (xist2 (s .link) a) more lt) t;
       xist2 = λ class well. rw (second class well) t;
     }

@@ -11,6 +11,7 @@ pub mod Accuracy
 pub mod OneUnit
 mod Listing
 pub mod Worthless
+pub mod Telegram83
 pub mod Worked
 pub use Accuracy.{accuracy}
 pub use OneUnit.{told}

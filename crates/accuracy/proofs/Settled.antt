@@ -1,6 +1,8 @@
 -- The ledger's table is that of the calls: an axis within its limits does not get 16, and each call answers the number that the ledger works out from
 -- the arguments; at 0 it goes where its rule says.
-use Rattle.integer.specs.Base.{_≡_, refl, List, ℕ, zero, suc, ℤ}
+use Rattle.integer.specs.Base.{_≡_, refl, List, _++_, ℕ, zero, suc, ℤ}
+use Rattle.integer.specs.{octets}
+use Rattle.ring.specs.{complement}
 use Rattle.encoder.specs.{answer}
 use Rattle.sensor.specs.{rawOf}
 use Rattle.axis_shaft.specs.{shaftRefusal}
@@ -9,18 +11,23 @@ use Rattle.axis.specs.{Axis, rulesOn, accepted, refused, next, atRaw, readRawRe
 use Rattle.axis.proofs.{Limits, limits-none}
 use Rattle.axis_batch.specs.{after, positionsOf, batchRefusal, batch, batchList}
 use Rattle.axis_batch.proofs.{first-is}
-use Rattle.cyclic.specs.{cycleRefusal, linkLeft, axisAfter, inputOf, done, refused as kept, cycle, cycleInput}
-use Rattle.accuracy.specs.{Call, reading, rawReading, batching, presetting, storing, cycling, refusalBy, State, to, both, yields}
+use Rattle.cyclic.specs.{cycleRefusal, linkLeft, axisAfter, inputOf, done, refused as kept, cycle, cycleInput, nistB, input83, cycle83Refusal, cycle83}
+use Rattle.cyclic.specs.{cycle83Input}
+use Rattle.accuracy.specs.{Call, reading, rawReading, batching, presetting, storing, cycling, measuring, refusalBy, State, to, both, yields}
 use Rattle.accuracy.proofs.Standing.{deviceOf, ledgerOf, onward}
 
--- the state after an accepted call
+-- the state after an accepted cycle of either telegram, and after any accepted call
+abbrev pub left : State → ℕ → List ℕ → State
+left s raw output = record { axis = axisAfter (s .axis) (s .link) raw output; link = linkLeft (s .axis) (s .link) raw output }
+
 abbrev pub goes : State → Call → State
 goes s (reading step turn) = onward s (atRaw (s .axis) (rawOf (s .axis .nameplate) step turn))
 goes s (rawReading raw) = onward s (atRaw (s .axis) raw)
 goes s (batching raws positions) = onward s (after (s .axis) raws)
 goes s (presetting v relative) = onward s (presetted (s .axis) v relative)
 goes s (storing v) = onward s (holding (s .axis) v)
-goes s (cycling raw output input) = record { axis = axisAfter (s .axis) (s .link) raw output; link = linkLeft (s .axis) (s .link) raw output }
+goes s (cycling raw output input) = left s raw output
+goes s (measuring raw elapsed output input) = left s raw output
 
 -- a function of an answer is an answer by the same number
 through : {A B : Type 0} (f : A → B) (r : ℕ → A) (t : A) (n : ℕ) → f (answer r t n) ≡ answer (λ (i : ℕ). f (r i)) (f t) n
@@ -43,11 +50,15 @@ module _ (s : State) (p : ℕ) (g : ℤ) (lim : Limits (s .axis)) where
   unfolding cycleRefusal
   cycle-is raw output input = rw (limits-none (s .axis) lim)
 
+  cycle83-is : (raw elapsed : ℕ) (output input : List ℕ) → cycle83Refusal (s .axis) elapsed output input ≡ number (measuring raw elapsed output input)
+  unfolding cycle83Refusal
+  cycle83-is raw elapsed output input = rw (limits-none (s .axis) lim)
+
   by-next : (n : ℕ) (b : Axis) → to s (next (s .axis) n b) ≡ answer (λ (i : ℕ). s) (onward s b) n
   by-next n b = through (to s) (refused (s .axis)) (accepted b) n
 
   pub settled : (c : Call) → yields s c ≡ answer (λ (i : ℕ). s) (goes s c) (number c)
-  unfolding read readRefusal readRaw readRawRefusal batch preset store presetRefusal cycle rulesOn
+  unfolding read readRefusal readRaw readRawRefusal batch preset store presetRefusal cycle cycle83 rulesOn
   settled (reading step turn) = rw (limits-none (s .axis) lim, read-is (rawOf (s .axis .nameplate) step turn)) (by-next (number (reading step turn)) _)
   settled (rawReading raw) = rw (limits-none (s .axis) lim, read-is raw) (by-next (number (rawReading raw)) _)
   settled (batching raws positions) = rw (batch-is raws positions) (by-next (number (batching raws positions)) _)
@@ -55,6 +66,8 @@ module _ (s : State) (p : ℕ) (g : ℤ) (lim : Limits (s .axis)) where
   settled (storing v) = rw (limits-none (s .axis) lim) (by-next (number (storing v)) _)
   settled (cycling raw output input) =
       rw (cycle-is raw output input) (through both (kept (s .axis) (s .link)) (done _ _) (number (cycling raw output input)))
+  settled (measuring raw elapsed output input) =
+      rw (cycle83-is raw elapsed output input) (through both (kept (s .axis) (s .link)) (done _ _) (number (measuring raw elapsed output input)))
 
   -- the lent buffers of accepted calls
   pub list-is : (raws positions : List ℕ) → number (batching raws positions) ≡ 0 → batchList (s .axis) raws positions ≡ positionsOf (s .axis) raws
@@ -65,3 +78,9 @@ module _ (s : State) (p : ℕ) (g : ℤ) (lim : Limits (s .axis)) where
       cycleInput (s .axis) (s .link) raw output input ≡ inputOf (b .link) (b .axis) output
   unfolding cycleInput cycle
   input-is raw output input e = rw (cycle-is raw output input, e)
+
+  pub input83-is : (raw elapsed : ℕ) (output input : List ℕ) → number (measuring raw elapsed output input) ≡ 0 → let b = yields s (measuring raw elapsed output input) in
+      cycle83Input (s .axis) (s .link) raw elapsed output input
+      ≡ inputOf (b .link) (b .axis) output ++ octets 4 (complement (nistB (s .axis) raw elapsed))
+  unfolding cycle83Input cycle83 input83
+  input83-is raw elapsed output input e = rw (cycle83-is raw elapsed output input, e)

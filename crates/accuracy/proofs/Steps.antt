@@ -1,6 +1,6 @@
 -- One call beside a ledger: the state after it matches the ledger after it, a preset puts the position where rule 6 says, and each position in a lent
 -- buffer agrees with the ledger at its own moment. One case for each kind of call.
-use Rattle.integer.specs.Base.{_≡_, refl, not, List, [], ℕ, zero, suc, eqb, ℤ, length}
+use Rattle.integer.specs.Base.{_≡_, refl, not, List, [], _++_, append-nil, ℕ, zero, suc, eqb, ℤ, length}
 use Rattle.encoder.specs.{wrongBuffer, when, answer}
 use Rattle.encoder.proofs.{before-none}
 use Rattle.sensor.specs.{rawOf}
@@ -8,11 +8,12 @@ use Rattle.axis_shaft.specs.{moveRefusal, refusalIn}
 use Rattle.axis.specs.{rulesOn, positionOf}
 use Rattle.axis.proofs.{Limits, reported-is}
 use Rattle.axis_batch.specs.{after, positionsOf, batchList}
-use Rattle.accuracy.specs.{Call, reading, rawReading, batching, presetting, storing, cycling, Device, force, Ledger.Ledger, refusalBy, moves, does, deed}
-use Rattle.accuracy.specs.{withReadings, noted, Supposed, Entries, Lent, readSingly, State, yields, lentBy}
+use Rattle.cyclic.specs.{inputOf}
+use Rattle.accuracy.specs.{Call, reading, rawReading, batching, presetting, storing, cycling, measuring, Device, force, Ledger.Ledger, refusalBy, moves, does, deed}
+use Rattle.accuracy.specs.{withReadings, noted, Supposed, Entries, Shown, Lent, readSingly, State, yields, lentBy}
 use Rattle.accuracy.proofs.{LimitsKept.call-kept, Standing.deviceOf, Standing.ledgerOf, Standing.Keeps, Standing.Matches, Standing.onward}
 use Rattle.accuracy.proofs.{Standing.stands-moved, Standing.walked, Standing.Done, Presets.puts-by, Presets.stands-preset, Settled.goes, Settled.settled}
-use Rattle.accuracy.proofs.{Settled.list-is, Settled.input-is, Cycles.cycle-by, Inputs.shown}
+use Rattle.accuracy.proofs.{Settled.list-is, Settled.input-is, Settled.input83-is, Cycles.cycle-by, Inputs.shown}
 
 module _ (s : State) (p : ℕ) (g : ℤ) (lim : Limits (s .axis)) (k : Keeps s p g) (m : ℕ → ℤ) where
   abbrev d : Device
@@ -36,7 +37,8 @@ module _ (s : State) (p : ℕ) (g : ℤ) (lim : Limits (s .axis)) (k : Keeps s p
   taken (presetting v relative) e h =
       record { stands = stands-preset s p g lim v relative; puts = rw (reported-is (s .axis) lim) (puts-by s p g lim v relative) }
   taken (storing v) e h = record { stands = record { device = refl; ledger = refl; kept = k }; puts = tt }
-  taken (cycling raw output input) e h = cycle-by s p g lim k raw output input m (moveRefusal (force d) (l .last) raw) refl h
+  taken (cycling raw output input) e h = cycle-by s p g lim k raw output m (moveRefusal (force d) (l .last) raw) refl h
+  taken (measuring raw elapsed output input) e h = cycle-by s p g lim k raw output m (moveRefusal (force d) (l .last) raw) refl h
 
   -- ---- a refused call does nothing
   by-number : (c : Call) (n : ℕ) → refusalBy d l c ≡ n → Supposed d (l .last) (answer (λ (i : ℕ). moves l []) (does d l c) n .numbers) m
@@ -56,6 +58,13 @@ module _ (s : State) (p : ℕ) (g : ℤ) (lim : Limits (s .axis)) (k : Keeps s p
   entries-by raws positions zero e h = rw (list-is s p g lim raws positions e) (batch-done raws positions e h .1)
   entries-by raws positions (suc n) e h = tt
 
+  -- in the input of a cycle, by the state after it
+  shows : (c : Call) → Supposed d (l .last) (deed d l c .numbers) m → (output more : List ℕ) → let b = yields s c in
+      Shown d (noted l (deed d l c) m (positionOf (b .axis))) (inputOf (b .link) (b .axis) output ++ more)
+  shows c h output more =
+      let t = done c h .stands in
+      rw (t .device, t .ledger) at (shown (yields s c) _ _ (call-kept s c lim) (t .kept) output more)
+
   pub lent : (c : Call) → Supposed d (l .last) (deed d l c .numbers) m
       → Lent d l c m (noted l (deed d l c) m (positionOf (yields s c .axis))) (lentBy s c)
   lent (reading step turn) h = tt
@@ -64,6 +73,6 @@ module _ (s : State) (p : ℕ) (g : ℤ) (lim : Limits (s .axis)) (k : Keeps s p
   lent (presetting v relative) h = tt
   lent (storing v) h = tt
   lent (cycling raw output input) h =
-      let c = cycling raw output input in
-      let t = done c h .stands in
-      λ e. rw (input-is s p g lim raw output input e) (rw (t .device, t .ledger) at (shown (yields s c) _ _ (call-kept s c lim) (t .kept) output))
+      λ e. rw (input-is s p g lim raw output input e) (rw append-nil at (shows (cycling raw output input) h output []))
+  lent (measuring raw elapsed output input) h =
+      λ e. rw (input83-is s p g lim raw elapsed output input e) (shows (measuring raw elapsed output input) h output _)

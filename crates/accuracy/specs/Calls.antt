@@ -18,3 +18,5 @@ pub data Call : Type 0 where
   storing : (v : ℤ) → Call
   -- a cycle: raw number, output octets, and the lent input octets
   cycling : (raw : ℕ) (output input : List ℕ) → Call
+  -- a cycle of telegram 83 (request 1): the elapsed milliseconds too
+  measuring : (raw elapsed : ℕ) (output input : List ℕ) → Call

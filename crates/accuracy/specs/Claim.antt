@@ -19,7 +19,7 @@ use Rattle.integer.specs.{bit, _modulo_, part, bigEndian}
 use Rattle.encoder.specs.{Nameplate, Parameters, fieldsOf}
 use Rattle.axis_shaft.specs.{oriented, Reported, At, declared.Reported.the-variants.Refused}
 use Rattle.cyclic.specs.{class4}
-use Rattle.accuracy.specs.Calls.{First, Call, reading, rawReading, batching, presetting, storing, cycling}
+use Rattle.accuracy.specs.Calls.{First, Call, reading, rawReading, batching, presetting, storing, cycling, measuring}
 use Rattle.accuracy.specs.Ledger.{Device, force, Ledger, startBy, firstRaw, opened, refusalBy, Preset, none, made, deed, withReadings, noted}
 
 -- any program: a start, calls, its answer when it is asked for the position, and the lent list or octets as a call on that state leaves them
@@ -73,7 +73,7 @@ Entries d l (raw ∷ raws) m (x ∷ xs) =
     Agrees d (withReadings l (raw ∷ []) m) x × Entries d (withReadings l (raw ∷ []) m) raws (λ i. m (suc i)) xs
 
 -- and wherever the cycle's rules put it in the input: class 2 in its four octets, class 4 in G1_XIST1 unless block bit 2 asks for the unshifted
--- position there, and in G1_XIST2 while no error is held
+-- position there, and in G1_XIST2 while no error is held; telegram 83 has both at the same octets
 pub record Shown (d : Device) (l : Ledger) (input : List ℕ) : Type 0 where
   pub class2 : class4 (d .parameters) ≡ false → Agrees d l (bigEndian (part 1 4 input))
   pub xist1 : class4 (d .parameters) ≡ true → bit 2 (fieldsOf (d .parameters) .operating) ≡ false → Agrees d l (bigEndian (part 5 8 input))
@@ -82,6 +82,7 @@ pub record Shown (d : Device) (l : Ledger) (input : List ℕ) : Type 0 where
 abbrev pub Lent : Device → Ledger → Call → (ℕ → ℤ) → Ledger → List ℕ → Type 0
 Lent d l (batching raws positions) m after lent = Entries d l (deed d l (batching raws positions) .numbers) m lent
 Lent d l (cycling raw output input) m after lent = refusalBy d l (cycling raw output input) ≡ 0 → Shown d after lent
+Lent d l (measuring raw elapsed output input) m after lent = refusalBy d l (measuring raw elapsed output input) ≡ 0 → Shown d after lent
 Lent d l (reading step turn) m after lent = Unit
 Lent d l (rawReading raw) m after lent = Unit
 Lent d l (presetting v relative) m after lent = Unit

@@ -8,8 +8,8 @@ use Rattle.axis_shaft.specs.{oriented, moveRefusal, refusalIn}
 use Rattle.axis_offset.specs.{valueRefusal}
 use Rattle.axis.specs.{startRefusal, startRawRefusal}
 use Rattle.cyclic_link.specs.{Link, quiet}
-use Rattle.cyclic.specs.{wordOf, counted, class4, lengthRefusal, linkAfter}
-use Rattle.accuracy.specs.Calls.{First, firstReading, firstNumber, Call, reading, rawReading, batching, presetting, storing, cycling}
+use Rattle.cyclic.specs.{wordOf, counted, class4, lengthRefusal, linkAfter, refusal83}
+use Rattle.accuracy.specs.Calls.{First, firstReading, firstNumber, Call, reading, rawReading, batching, presetting, storing, cycling, measuring}
 use Rattle.cyclic_link.specs.Class2 as Class2
 use Rattle.cyclic_link.specs.Class4 as Class4
 
@@ -54,6 +54,7 @@ refusalBy d l (batching raws positions) =
 refusalBy d l (presetting v relative) = valueRefusal (force d) v
 refusalBy d l (storing v) = valueRefusal (force d) v
 refusalBy d l (cycling raw output input) = lengthRefusal (class4 (d .parameters)) (length output) (length input)
+refusalBy d l (measuring raw elapsed output input) = refusal83 (class4 (d .parameters)) (length output) (length input) elapsed
 
 -- ---- by the rules: what a call does
 pub data Preset : Type 0 where
@@ -84,13 +85,9 @@ preset4 d l word = cond (rises d l (Class4.asked word) && not (Class4.held (l .l
 abbrev pub cyclePreset : Device → Ledger → List ℕ → Preset
 cyclePreset d l output = cond (class4 (d .parameters)) (preset4 d l (counted output)) (preset2 d l (wordOf output))
 
-abbrev pub does : Device → Ledger → Call → Deed
-does d l (reading step turn) = moves l (rawOf (d .plate) step turn ∷ [])
-does d l (rawReading raw) = moves l (raw ∷ [])
-does d l (batching raws positions) = moves l raws
-does d l (presetting v relative) = record { numbers = []; preset = made v relative; stored = l .stored; link = l .link }
-does d l (storing v) = record { numbers = []; preset = none; stored = v; link = l .link }
-does d l (cycling raw output input) =
+-- a cycle, of telegram 83 as of telegram 81 and of class 2
+abbrev pub exchanges : Device → Ledger → ℕ → List ℕ → Deed
+exchanges d l raw output =
     let refusal = moveRefusal (force d) (l .last) raw in
     record {
       numbers = answer (λ _. []) (raw ∷ []) refusal;
@@ -98,6 +95,15 @@ does d l (cycling raw output input) =
       stored = l .stored;
       link = linkAfter (force d) (d .parameters) (l .link) (not (eqb refusal 0)) output;
     }
+
+abbrev pub does : Device → Ledger → Call → Deed
+does d l (reading step turn) = moves l (rawOf (d .plate) step turn ∷ [])
+does d l (rawReading raw) = moves l (raw ∷ [])
+does d l (batching raws positions) = moves l raws
+does d l (presetting v relative) = record { numbers = []; preset = made v relative; stored = l .stored; link = l .link }
+does d l (storing v) = record { numbers = []; preset = none; stored = v; link = l .link }
+does d l (cycling raw output input) = exchanges d l raw output
+does d l (measuring raw elapsed output input) = exchanges d l raw output
 
 -- a refused call does nothing
 abbrev pub deed : Device → Ledger → Call → Deed

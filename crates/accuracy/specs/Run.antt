@@ -5,8 +5,8 @@ use Rattle.encoder.specs.{Nameplate, Parameters}
 use Rattle.axis.specs.{Axis, Next, reported, start, startRaw, readRaw, read, preset, store}
 use Rattle.axis_batch.specs.{batch, batchList}
 use Rattle.cyclic_link.specs.{Link, quiet}
-use Rattle.cyclic.specs.{Cycled, cycle, cycleInput}
-use Rattle.accuracy.specs.Calls.{First, firstReading, firstNumber, Call, reading, rawReading, batching, presetting, storing, cycling}
+use Rattle.cyclic.specs.{Cycled, cycle, cycleInput, cycle83, cycle83Input}
+use Rattle.accuracy.specs.Calls.{First, firstReading, firstNumber, Call, reading, rawReading, batching, presetting, storing, cycling, measuring}
 use Rattle.accuracy.specs.Claim.{Program}
 
 pub record State : Type 0 where
@@ -34,11 +34,13 @@ yields s (batching raws positions) = to s (batch (s .axis) raws positions)
 yields s (presetting v relative) = to s (preset (s .axis) v relative)
 yields s (storing v) = to s (store (s .axis) v)
 yields s (cycling raw output input) = both (cycle (s .axis) (s .link) raw output input)
+yields s (measuring raw elapsed output input) = both (cycle83 (s .axis) (s .link) raw elapsed output input)
 
 -- the lent list of positions or input octets
 abbrev pub lentBy : State → Call → List ℕ
 lentBy s (batching raws positions) = batchList (s .axis) raws positions
 lentBy s (cycling raw output input) = cycleInput (s .axis) (s .link) raw output input
+lentBy s (measuring raw elapsed output input) = cycle83Input (s .axis) (s .link) raw elapsed output input
 lentBy s (reading step turn) = []
 lentBy s (rawReading raw) = []
 lentBy s (presetting v relative) = []

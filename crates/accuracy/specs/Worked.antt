@@ -1,8 +1,8 @@
 -- Worked runs that the claim speaks of: calls of every kind, refused ones, wraps, presets and faults among them, for class 2, for class 4, and for class
 -- 4 under block bit 2. Beside each call stands what was worked out from document 01 by hand: the position after it, p and g, and the lent list or octets.
-use Rattle.integer.specs.Base.{true, false, List, [], _∷_, ℕ, zero, suc, ℤ, pos, negsuc}
+use Rattle.integer.specs.Base.{true, false, List, [], _∷_, _++_, ℕ, zero, suc, ℤ, pos, negsuc}
 use Rattle.encoder.specs.{plate, Class2, Class4}
-use Rattle.accuracy.specs.{Calls.firstReading, Calls.Call, Calls.reading, Calls.rawReading, Calls.batching, Calls.presetting, Calls.storing, Calls.cycling}
+use Rattle.accuracy.specs.{Calls.firstReading, Calls.Call, Calls.reading, Calls.rawReading, Calls.batching, Calls.presetting, Calls.storing, Calls.cycling, Calls.measuring}
 use Rattle.accuracy.specs.{Ledger.Device, Ledger.Ledger, Ledger.deed, Ledger.noted, Claim.Event, Claim.number, Run.State, Ours.ours}
 
 -- R = 10, T = 3, so C = 30; M = 3 and L = 7. Class 2, the axis of document 01's listing, counts with the raw number, class 4 against it
@@ -36,6 +36,10 @@ o a b c d = a ∷ b ∷ c ∷ d ∷ []
 abbrev pub o12 : ℕ → ℕ → ℕ → ℕ → List ℕ
 o12 high low first second = 0x02 ∷ 0x00 ∷ high ∷ low ∷ 0 ∷ 0 ∷ 0 ∷ first ∷ 0 ∷ 0 ∷ 0 ∷ second ∷ []
 
+-- of telegram 83, with the octets of NIST_B
+abbrev pub o16 : ℕ → ℕ → ℕ → ℕ → List ℕ → List ℕ
+o16 high low first second velocity = o12 high low first second ++ velocity
+
 -- started at step 8 of turn 2: raw number 28, position 1
 abbrev pub run2 : List Line
 run2 =
@@ -64,6 +68,8 @@ run2 =
     ∷ line (cycling 10 (o 0 0 0 2) (o 0 0 0 0)) (pos 0 ∷ []) 6 5 (pos 1) (o 0 0 0 6)
     ∷ line (cycling 10 (o 0x80 0 0 7) (o 0 0 0 0)) (pos 0 ∷ []) 6 5 (pos 1) (o 0 0 0 6)
     ∷ line (cycling 11 (o 0 0 0 0) (1 ∷ 2 ∷ 3 ∷ [])) [] 6 5 (pos 1) (1 ∷ 2 ∷ 3 ∷ [])
+    -- telegram 83 is none of class 2 (13)
+    ∷ line (measuring 11 1 (o 0 0 0 0) (o16 1 2 3 4 (o 5 6 7 8))) [] 6 5 (pos 1) (o16 1 2 3 4 (o 5 6 7 8))
     ∷ []
 
 -- started at step 2 of turn 0: raw number 2, oriented number 28, position 1
@@ -81,6 +87,12 @@ run4 =
     ∷ line (cycling 25 (o 0 0 0x10 0) (o12 0 0 0 0)) (pos 0 ∷ []) 2 2 (pos 0) (o12 0x20 0x00 2 2)
     ∷ line (cycling 30 (o 4 0 0x40 0) (o12 0 0 0 0)) [] 2 2 (pos 0) (o12 0x60 0x00 2 2)
     ∷ line (cycling 25 (o 4 0 0 0) (o 0 0 0 0)) [] 2 2 (pos 0) (o 0 0 0 0)
+    -- telegram 83: 4 × 3 × 1000 / (10 × 7) is 171; back by 1 in 1 ms is −300, whatever the preset of the same cycle; faulty, NIST_B is 0; nothing
+    -- elapsed (14)
+    ∷ line (measuring 21 7 (o 4 0 0 0) (o16 0 0 0 0 (o 0 0 0 0))) (pos 4 ∷ []) 3 2 (pos 4) (o16 0x20 0x00 3 3 (o 0 0 0 171))
+    ∷ line (measuring 22 1 (o 4 0 0x10 0) (o16 0 0 0 0 (o 0 0 0 0))) (negsuc 0 ∷ []) 2 2 (pos 0) (o16 0x30 0x00 2 2 (o 0xff 0xff 0xfe 0xd4))
+    ∷ line (measuring 30 1 (o 4 0 0 0) (o16 0 0 0 0 (o 0 0 0 0))) [] 2 2 (pos 0) (o16 0x80 0x00 2 1 (o 0 0 0 0))
+    ∷ line (measuring 22 0 (o 4 0 0 0) (o16 1 2 3 4 (o 5 6 7 8))) [] 2 2 (pos 0) (o16 1 2 3 4 (o 5 6 7 8))
     ∷ []
 
 -- the same, with block bit 2: G1_XIST1 is the unshifted position
@@ -89,6 +101,8 @@ run4u =
     line (storing (pos 2)) [] 1 0 (pos 28) []
     ∷ line (cycling 26 (o 4 0 0x18 0) (o12 0 0 0 0)) (pos 6 ∷ []) 5 5 (pos 0) (o12 0x30 0x00 3 5)
     ∷ line (cycling 30 (o 4 0 0 0) (o12 0 0 0 0)) [] 5 5 (pos 0) (o12 0x80 0x00 3 1)
+    -- and so in telegram 83, where 1 × 3 × 1000 / (10 × 10) is 30
+    ∷ line (measuring 25 10 (o 4 0 0 0) (o16 0 0 0 0 (o 0 0 0 0))) (pos 1 ∷ []) 5 5 (pos 1) (o16 0x80 0x00 3 1 (o 0 0 0 30))
     ∷ []
 
 -- ---- the same, from the definitions

@@ -1,12 +1,12 @@
 -- Programs that document 01 would send back ("Programs we would send back", "Traps on the bench"), each as ours but for one thing. Each breaks the
--- claim: proofs/Worthless.antt.
-use Rattle.integer.specs.Base.{Bool, false, cond, List, ℕ, _*_, _/_, _%_, pos, _+ℤ_, _-ℤ_, _*ℤ_, length, getD, replicate, quotZ}
+-- claim: proofs/Worthless.antt, and for the octets of telegram 83 proofs/Telegram83.antt.
+use Rattle.integer.specs.Base.{Bool, false, cond, List, _++_, ℕ, _*_, _/_, _%_, eqb, pos, _+ℤ_, _-ℤ_, _*ℤ_, length, getD, take, drop, replicate, quotZ}
 use Rattle.integer.specs.{_modulo_}
 use Rattle.axis_shaft.specs.{oriented, moveOf, Reported, At}
 use Rattle.axis.specs.{Axis, rulesOn, unshiftedOf, positionOf, reported, withShaft}
 use Rattle.cyclic_link.specs.{quiet}
 use Rattle.cyclic.specs.{faultyAt}
-use Rattle.accuracy.specs.{Calls.Call, Calls.reading, Calls.rawReading, Calls.batching, Calls.presetting, Calls.storing, Calls.cycling, Claim.Program}
+use Rattle.accuracy.specs.{Calls.Call, Calls.reading, Calls.rawReading, Calls.batching, Calls.presetting, Calls.storing, Calls.cycling, Calls.measuring, Claim.Program}
 use Rattle.accuracy.specs.{Run.State, Run.begin, Run.yields, Run.lentBy}
 
 -- ---- another answer for the position
@@ -65,6 +65,7 @@ instead raws kind number (batching numbers positions) = batching (raws numbers) 
 instead raws kind number (presetting v relative) = presetting v (kind relative)
 instead raws kind number (storing v) = storing v
 instead raws kind number (cycling raw output input) = cycling (number raw) output input
+instead raws kind number (measuring raw elapsed output input) = measuring (number raw) elapsed output input
 
 abbrev pub takes : (Axis → Call → Call) → Program
 takes f =
@@ -99,6 +100,13 @@ forgetsLink =
 
 abbrev pub showsFresh : Program
 showsFresh = record { State = State; start = begin; call = yields; position = λ s. reported (s .axis); lent = λ s c. lentBy (fresh s) c }
+
+-- ---- the sixteen octets of telegram 83 in another order: NIST_B in front of the twelve
+abbrev pub shifted : List ℕ → List ℕ
+shifted octets = cond (eqb (length octets) 16) (drop 12 octets ++ take 12 octets) octets
+
+abbrev pub shiftsOctets : Program
+shiftsOctets = record { State = State; start = begin; call = yields; position = λ s. reported (s .axis); lent = λ s c. shifted (lentBy s c) }
 
 -- ---- adds a rounded move to the last position, and a preset's change of the offset
 pub record Adding : Type 0 where

@@ -7,7 +7,7 @@ use Rattle.axis.proofs.{Limits, limits-of, accepts, raw-kept, presetted-kept}
 use Rattle.cyclic_link.specs.{Link, Classes.reaction}
 use Rattle.cyclic_link.proofs.{possible}
 use Rattle.cyclic.specs.{faultyAt, takenAt, presetBy, wordOf, Class2.axis as axis2, counted, Class4.axis as axis4, class4, wordBy, cycleRefusal, axisAfter}
-use Rattle.cyclic.specs.{cycled, cycle}
+use Rattle.cyclic.specs.{cycled, cycle, cycle83Refusal, cycle83}
 
 -- ---- the axis after a cycle: with its preset, if one is made; the same for both classes
 after-by : (class : Bool) (b : Axis) (k : Link) (faulty : Bool) (output : List ℕ)
@@ -26,7 +26,7 @@ after-is a k raw output = after-by (class4 (a .parameters)) (takenAt a raw) k (f
 abbrev pub Same : Axis → Axis → Type 0
 Same a b = (b .nameplate ≡ a .nameplate) × (b .parameters ≡ a .parameters)
 
-read-same : (a : Axis) (raw : ℕ) → Same a (readRaw a raw .axis)
+pub read-same : (a : Axis) (raw : ℕ) → Same a (readRaw a raw .axis)
 unfolding readRaw atRaw
 read-same a raw = by (readRawRefusal a raw)
   where
@@ -34,7 +34,7 @@ read-same a raw = by (readRawRefusal a raw)
     by zero = (refl, refl)
     by (suc n) = (refl, refl)
 
-preset-same : (a b : Axis) (v : ℤ) (relative made : Bool) → Same a b → Same a (cond made (presetted b v relative) b)
+pub preset-same : (a b : Axis) (v : ℤ) (relative made : Bool) → Same a b → Same a (cond made (presetted b v relative) b)
 unfolding presetted
 preset-same a b v relative true s = s
 preset-same a b v relative false s = s
@@ -44,6 +44,11 @@ unfolding takenAt
 after-same a k raw output =
     let o = reaction (class4 (a .parameters)) (rulesOn (readRaw a raw .axis)) k (faultyAt a raw) (wordBy (class4 (a .parameters)) output) (readRaw a raw .axis .stored) .preset in
     rw (after-is a k raw output) (preset-same a (readRaw a raw .axis) (o .value) (o .relative) (o .made) (read-same a raw))
+
+-- ---- an answer without a refusal is of number 0
+pub number-none : (a b : Axis) (k j : Link) (n : ℕ) → cycled a k b j n .refusal ≡ 0 → n ≡ 0
+number-none a b k j zero e = refl
+number-none a b k j (suc n) e = e
 
 -- ---- the limits
 preset-by : (a : Axis) (v : ℤ) (relative made : Bool) → Limits a → (made ≡ true → natAbs v < rulesOn a .span .0)
@@ -67,6 +72,10 @@ by-number a b k j (suc n) l m = l
 pub cycle-kept : (a : Axis) (k : Link) (raw : ℕ) (output input : List ℕ) → Limits a → Limits (cycle a k raw output input .axis)
 unfolding cycle
 cycle-kept a k raw output input l = by-number a (axisAfter a k raw output) k _ (cycleRefusal a output input) l (after-kept a k raw output l)
+
+pub cycle83-kept : (a : Axis) (k : Link) (raw e : ℕ) (output input : List ℕ) → Limits a → Limits (cycle83 a k raw e output input .axis)
+unfolding cycle83
+cycle83-kept a k raw e output input l = by-number a (axisAfter a k raw output) k _ (cycle83Refusal a e output input) l (after-kept a k raw output l)
 
 -- ---- and both
 ready-by : (a b : Axis) (f : InForce) → Ready a f → Same a b → Limits b → Ready b f

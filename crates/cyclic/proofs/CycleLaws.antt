@@ -11,8 +11,8 @@ use Rattle.axis.proofs.{limits-of, stands-none}
 use Rattle.cyclic_link.specs.{Link, Reaction, Classes.reaction, Possible}
 use Rattle.cyclic_link.proofs.{possible}
 use Rattle.cyclic.specs.{Cycled, Standing, faultyAt, takenAt, presetBy, standing, class4, inputOctets, lengthRefusal, cycleRefusal, wordBy, inputBy, linkAfter}
-use Rattle.cyclic.specs.{axisAfter, inputOf, linkLeft, inputLeft, done}
-use Rattle.cyclic.proofs.{CycleKept.read-ready, CycleKept.after-same, CycleKept.after-is, Class4Laws.at-position}
+use Rattle.cyclic.specs.{axisAfter, inputOf, linkLeft, inputLeft, done, reactionTo, responded}
+use Rattle.cyclic.proofs.{CycleKept.read-ready, CycleKept.read-same, CycleKept.preset-same, CycleKept.after-same, CycleKept.after-is, Class4Laws.at-position}
 use native.Mathlib.Nat as N
 use Rattle.cyclic_link.specs.Class2 as Link2
 use Rattle.cyclic_link.specs.Class4 as Link4
@@ -20,7 +20,7 @@ use Rattle.cyclic.specs.Class2 as Class2
 use Rattle.cyclic.specs.Class4 as Class4
 
 -- ---- the class, and the lengths by it
-class-is : (p : Parameters) (g : Fields) → g ≡ fieldsOf p → class4 p ≡ g .class4
+pub class-is : (p : Parameters) (g : Fields) → g ≡ fieldsOf p → class4 p ≡ g .class4
 class-is p g e = ap (λ (h : Fields). h .class4) (sym e)
 
 pub lengths : (class : Bool) (output input : ℕ) → lengthRefusal class output input ≡ 0 → (output ≡ 4) × (input ≡ inputOctets class)
@@ -54,47 +54,59 @@ pub input-two : (class : Bool) (k : Link) (w : ℕ) (b : Standing) (l i : List �
 unfolding Class2.input
 input-two class k w b l i t b-is long l-is = l-is ∙ rw (long, t, at-position b b-is)
 
--- ---- an accepted cycle: x is the answer to the raw number, w the control word, q the reaction, and b the axis after it with its positions
-module _ (a : Axis) (f : InForce) (r : Ready a f) (k : Link) (raw : ℕ) (output : List ℕ) (g : Fields) (g-is : g ≡ fieldsOf (a .parameters)) (x : Next) (x-is : x ≡ readRaw a raw) (w : ℕ) (w-is : w ≡ wordBy (g .class4) output)
+-- ---- what follows on the raw number: x is the answer to it, w the control word, q the reaction, and b the axis after it with its positions
+module _ (f : InForce) (k : Link) (output : List ℕ) (g : Fields) (x : Next) (at : Ready (x .axis) f) (w : ℕ) (w-is : w ≡ wordBy (g .class4) output)
     (q : Reaction) (q-is : q ≡ reaction (g .class4) f k (not (eqb (x .refusal) 0)) w (toZ w64 (ofZ w64 (x .axis .stored)))) where
-  at : Ready (x .axis) f
-  at = read-ready a f r raw x x-is
-
   stored-lt : natAbs (x .axis .stored) < f .span .0
   stored-lt = rw (at .is) (limits-of (x .axis) (at .stands) .stored)
 
-  reads-back : q ≡ reaction (g .class4) f k (not (eqb (x .refusal) 0)) w (x .axis .stored)
-  reads-back = q-is ∙ rw (reads (fits-abs {w = w64} (x .axis .stored) (omega (arith, stored-lt, at .shaft .sound .span-most))))
+  reads-back : q ≡ reactionTo (g .class4) f k x output
+  reads-back = q-is ∙ rw (reads (fits-abs {w = w64} (x .axis .stored) (omega (arith, stored-lt, at .shaft .sound .span-most))), w-is)
 
   pub preset-possible : Possible f (q .preset)
-  preset-possible = rw reads-back (possible (g .class4) f k (not (eqb (x .refusal) 0)) w (x .axis .stored) stored-lt)
+  preset-possible = rw reads-back (possible (g .class4) f k (not (eqb (x .refusal) 0)) (wordBy (g .class4) output) (x .axis .stored) stored-lt)
 
   module _ (b : Standing) (b-is : b ≡ standing (presetBy (x .axis) (q .preset))) where
-    reaction-is : q ≡ reaction (class4 (a .parameters)) f k (faultyAt a raw) (wordBy (class4 (a .parameters)) output) (takenAt a raw .stored)
-    unfolding faultyAt takenAt
-    reaction-is = reads-back ∙ rw (w-is, g-is, x-is)
-
-    taken-is : x .axis ≡ takenAt a raw
-    unfolding takenAt
-    taken-is = rw x-is
-
-    axis-is : b .axis ≡ axisAfter a k raw output
-    axis-is = rw (b-is, after-is a k raw output, reaction-is, ← taken-is, ← at .is)
-
-    link-is : q .link ≡ linkLeft a k raw output
-    unfolding linkAfter
-    link-is = rw (reaction-is, ← r .is) (link-by (class4 (a .parameters)) f k (faultyAt a raw) output _)
-
-    pub left-fields : g ≡ fieldsOf (b .axis .parameters)
-    left-fields = rw (axis-is, after-same a k raw output .1) g-is
+    pub left-fields : g ≡ fieldsOf (x .axis .parameters) → g ≡ fieldsOf (b .axis .parameters)
+    left-fields g-is = rw (b-is, preset-same (x .axis) (x .axis) (q .preset .value) (q .preset .relative) (q .preset .made) (refl, refl) .1) g-is
 
     pub left-standing : b ≡ standing (b .axis)
     left-standing = rw b-is
 
-    pub done-answer : _≡_ {A = Cycled} (record { axis = b .axis; link = q .link; refusal = 0 }) (done (axisAfter a k raw output) (linkLeft a k raw output))
-    done-answer = rw (axis-is, link-is)
+    pub done-answer : _≡_ {A = Cycled} (record { axis = b .axis; link = q .link; refusal = 0 }) (responded (g .class4) f k x output)
+    done-answer = rw (b-is, reads-back)
 
-    pub done-input : (l : List ℕ) → l ≡ inputBy (g .class4) (q .link) w (b .axis)
-        → l ≡ inputLeft a k raw output
+    pub done-input : (l : List ℕ) → l ≡ inputBy (g .class4) (q .link) w (b .axis) → l ≡ inputBy (g .class4) (q .link) (wordBy (g .class4) output) (b .axis)
+    done-input l l-is = l-is ∙ rw w-is
+
+-- ---- an accepted cycle, of either telegram: x is the answer to its raw number
+module _ (a : Axis) (f : InForce) (r : Ready a f) (k : Link) (raw : ℕ) (output : List ℕ) (g : Fields) (g-is : g ≡ fieldsOf (a .parameters)) (x : Next) (x-is : x ≡ readRaw a raw) where
+  pub taken-fields : g ≡ fieldsOf (x .axis .parameters)
+  taken-fields = rw (x-is, read-same a raw .1) g-is
+
+  reaction-is : reactionTo (g .class4) f k x output ≡ reaction (class4 (a .parameters)) f k (faultyAt a raw) (wordBy (class4 (a .parameters)) output) (takenAt a raw .stored)
+  unfolding faultyAt takenAt
+  reaction-is = rw (g-is, x-is)
+
+  taken-is : x .axis ≡ takenAt a raw
+  unfolding takenAt
+  taken-is = rw x-is
+
+  axis-is : presetBy (x .axis) (reactionTo (g .class4) f k x output .preset) ≡ axisAfter a k raw output
+  axis-is = rw (after-is a k raw output, reaction-is, ← taken-is, ← read-ready a f r raw x x-is .is)
+
+  link-is : reactionTo (g .class4) f k x output .link ≡ linkLeft a k raw output
+  unfolding linkAfter
+  link-is = rw (reaction-is, ← r .is) (link-by (class4 (a .parameters)) f k (faultyAt a raw) output _)
+
+  module _ (c : Cycled) (c-is : c ≡ responded (g .class4) f k x output) where
+    pub left-answer : c ≡ done (axisAfter a k raw output) (linkLeft a k raw output)
+    left-answer = c-is ∙ rw (axis-is, link-is)
+
+    pub left-input : (l : List ℕ) → l ≡ inputBy (g .class4) (c .link) (wordBy (g .class4) output) (c .axis) → l ≡ inputLeft a k raw output
     unfolding inputOf
-    done-input l l-is = l-is ∙ rw (w-is, link-is, ← axis-is, class-is (b .axis .parameters) g left-fields) (input-by (g .class4) _ _ output)
+    left-input l l-is = l-is ∙ rw (left-answer, after-same a k raw output .1, g-is) (input-by (class4 (a .parameters)) _ _ output)
+
+pub ruleset responses = (preset-possible, left-fields, left-standing, done-answer, done-input)
+
+pub ruleset cycles = (taken-fields, left-answer, left-input)

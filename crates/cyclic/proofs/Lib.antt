@@ -2,5 +2,7 @@ pub mod CycleKept
 pub mod StandingLaws
 pub mod Class4Laws
 pub mod CycleLaws
+pub mod Telegram83Laws
 pub mod Acknowledging
-pub use CycleKept.{after-is, cycle-kept}
+pub mod AsTelegram81
+pub use CycleKept.{after-is, cycle-kept, cycle83-kept}

@@ -2,9 +2,9 @@
 -- came from.
 use Rattle.integer.specs.Base.{ℕ, Bool, cond, not, _&&_, List, eqb, length}
 use Rattle.encoder.specs.{Parameters, InForce, wrongBuffer, when, _before_, answer, fieldsOf}
-use Rattle.axis.specs.{Axis, rulesOn, axisRefusal}
-use Rattle.cyclic_link.specs.{Link}
-use Rattle.cyclic.specs.{declared.Cycled.Cycled, Raw.faultyAt, Raw.takenAt}
+use Rattle.axis.specs.{Axis, Next, rulesOn, axisRefusal}
+use Rattle.cyclic_link.specs.{Link, Reaction, Classes.reaction}
+use Rattle.cyclic.specs.{declared.Cycled.Cycled, Raw.faultyAt, Raw.takenAt, Preset.presetBy}
 use Rattle.cyclic_link.specs.Class2 as Link2
 use Rattle.cyclic_link.specs.Class4 as Link4
 use Rattle.cyclic.specs.Class2 as Class2
@@ -56,6 +56,15 @@ inputLeft a k raw output = inputOf (linkLeft a k raw output) (axisAfter a k raw 
 -- the answer by the number of its refusal: refused, axis and link are kept
 abbrev pub done : Axis → Link → Cycled
 done a k = record { axis = a; link = k; refusal = 0 }
+
+-- the same once the raw number has been answered by x: the reaction to the output octets, and the preset that it makes
+abbrev pub reactionTo : Bool → InForce → Link → Next → List ℕ → Reaction
+reactionTo class f k x output = reaction class f k (not (eqb (x .refusal) 0)) (wordBy class output) (x .axis .stored)
+
+abbrev pub responded : Bool → InForce → Link → Next → List ℕ → Cycled
+responded class f k x output =
+    let q = reactionTo class f k x output in
+    done (presetBy (x .axis) (q .preset)) (q .link)
 
 abbrev pub refused : Axis → Link → ℕ → Cycled
 refused a k n = record { axis = a; link = k; refusal = n }

@@ -1,12 +1,14 @@
 // The cyclic exchange with the control (document 01, "One cycle"): an axis runs the cycle of the class that its parameters came from.
 mod class4;
 mod standing;
+pub mod telegram83;
 
 ghost use Rattle.integer.specs.Base.{_≡_, length};
 ghost use Rattle.encoder.specs.{fieldsOf};
 ghost use Rattle.axis.specs.{Ready};
-ghost use Rattle.cyclic.specs.{standing, inputOctets, lengthRefusal, wordBy, inputBy, axisAfter, linkLeft, inputLeft, done, cycle, cycleInput};
+ghost use Rattle.cyclic.specs.{standing, inputOctets, lengthRefusal, wordBy, inputBy, axisAfter, linkLeft, inputLeft, done, responded, cycle, cycleInput};
 use axis::Axis;
+use axis::Next;
 use cyclic_link::Link;
 use cyclic_link::react;
 use encoder::effect::Effect;
@@ -95,6 +97,23 @@ fn exchange(
         × (now (input .exit) ≡ inputLeft axis link raw (now (output .entry))) ⌝ }
 {
     let next = take(axis, rules, raw);
+    respond(fields, next, link, rules, output, input)
+}
+
+// What follows on the raw number in every cycle, that of telegram 83 too: the reaction to the output, the preset and the input.
+fn respond(
+    fields: Fields,
+    next: Next,
+    link: Link,
+    rules: InForce,
+    output: &[u8],
+    input: &mut [u8],
+) -> Cycled
+    requires { ⌜ Ready (next .axis) rules × (fields ≡ fieldsOf (next .axis .parameters))
+        × (length (now output) ≡ 4) × (length (now input) ≡ inputOctets (fields .class4)) ⌝ }
+    ensures { λ r. ⌜ (r ≡ responded (fields .class4) rules link next (now (output .entry)))
+        × (now (input .exit) ≡ inputBy (fields .class4) (r .link) (wordBy (fields .class4) (now (output .entry))) (r .axis)) ⌝ }
+{
     let moved = next.axis;
     let faulty = next.refusal != 0;
     let word = word_of(fields.class4, output);

@@ -1,13 +1,15 @@
 // What a cycle does to an axis within its limits: it takes the raw number, makes the preset and works out both positions.
-ghost use Rattle.integer.specs.Base.{_≡_};
+ghost use Rattle.integer.specs.Base.{_≡_, _<_};
 ghost use Rattle.axis.specs.{Ready, readRaw};
 ghost use Rattle.cyclic_link.specs.{Possible};
-ghost use Rattle.cyclic.specs.{presetBy, standing};
+ghost use Rattle.cyclic.specs.{presetBy, standing, measured};
 use axis::Axis;
 use axis::Next;
 use axis_offset::offset_by;
 use axis_shaft::Moved;
 use axis_shaft::Reported;
+use axis_velocity::MovedAt;
+use axis_velocity::moved_at;
 use cyclic_link::Preset;
 use encoder::effect::InForce;
 use encoder::quantity::Units;
@@ -35,6 +37,41 @@ pub(crate) fn take(axis: Axis, rules: InForce, raw: u32) -> Next
             }
         }
         Moved::Refused(n) => Next { axis, refusal: n },
+    }
+}
+
+// The answer to a raw number, and the velocity of its move.
+pub(crate) struct Measured {
+    pub next: Next,
+    // NIST_B
+    pub velocity: i32,
+}
+
+// The same, with the velocity. A faulty cycle has none.
+pub(crate) fn measure(axis: Axis, rules: InForce, raw: u32, elapsed: u16) -> Measured
+    requires { ⌜ Ready axis rules × (0 < elapsed) ⌝ }
+    ensures { λ r. ⌜ (r ≡ measured axis raw elapsed) × Ready (r .next .axis) rules ⌝ }
+{
+    let mut next = axis;
+    let shaft = axis.shaft;
+    match moved_at(shaft, rules, raw, elapsed) {
+        MovedAt::To {
+            shaft: here,
+            velocity,
+        } => {
+            next.shaft = here;
+            Measured {
+                next: Next {
+                    axis: next,
+                    refusal: 0,
+                },
+                velocity,
+            }
+        }
+        MovedAt::Refused(n) => Measured {
+            next: Next { axis, refusal: n },
+            velocity: 0,
+        },
     }
 }
 
