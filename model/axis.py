@@ -1,12 +1,13 @@
 #!/usr/bin/env python3
-"""An axis by document 01, apart from the Rattle code: whole numbers of any size, and the paper's own words for "modulo" and "rounded down"
-(Python's % and // are both rounded towards minus infinity).
+"""An axis by document 01, with telegram 83 of document 02, apart from the Rattle code: whole numbers of any size, and the paper's own words for
+"modulo" and "rounded down" (Python's % and // are both rounded towards minus infinity).
 
     python3 model/axis.py            prints the calculated vectors, each call with its answer under it
     python3 model/axis.py --check    compares them with the last part of crates/vectors/stdout, and stdin with stdout without the answers
 
-The calls are drawn with a fixed seed, so that every run prints the same.
+The calls are drawn with a fixed seed, so that every run prints the same. The last section repeats cycles that stand in crates/vectors/stdout.
 """
+import itertools
 import os
 import random
 import sys
@@ -119,6 +120,13 @@ class Axis:
             raise Refused(HALF)
         return d if 2 * d < self.c else d - self.c
 
+    # "Velocity"
+    def velocity_of(self, d, e):
+        """The velocity of a move d in e milliseconds."""
+        unit = self.speed if self.class4 else 0
+        top = d * 60000 if unit == 3 else d * self.m * (1000, 100, 10)[unit]
+        return max(-(2**31), min(2**31 - 1, cut(top, self.r * e)))
+
     # ---- the calls
     def start(self, s, t):
         n = self.parameters()
@@ -173,10 +181,7 @@ class Axis:
         self.standing()
         if e == 0:
             raise Refused(ELAPSED)
-        d = self.move(self.raw(s, t))
-        unit = self.speed if self.class4 else 0
-        top = d * 60000 if unit == 3 else d * self.m * (1000, 100, 10)[unit]
-        return max(-(2**31), min(2**31 - 1, cut(top, self.r * e)))
+        return self.velocity_of(self.move(self.raw(s, t)), e)
 
     # ---- "One cycle"
     def take(self, raw):
@@ -224,6 +229,24 @@ class Axis:
         second = 1 if k.error else self.position()
         return b"".join(n.to_bytes(size, "big") for n, size in ((0x0200, 2), (zsw, 2), (first, 4), (second, 4)))
 
+    # ---- document 02, No. 1
+    def nist_b(self, raw, e):
+        """The velocity of the move since the last accepted raw number; 0 where 9 or 10 would refuse the new one."""
+        try:
+            return self.velocity_of(self.move(raw), e)
+        except Refused:
+            return 0
+
+    def cycle83(self, raw, e, out, given):
+        """The input octets of telegram 83: those of telegram 81, then NIST_B."""
+        self.standing()
+        if not self.class4 or len(out) != 4 or len(given) != 16:
+            raise Refused(BUFFER)
+        if e == 0:
+            raise Refused(ELAPSED)
+        speed = self.nist_b(raw, e)  # from the readings, before the cycle moves the axis
+        return self.cycle(raw, out, given[:12]) + speed.to_bytes(4, "big", signed=True)
+
     # ---- "Diagnosis": octet 7 stands first
     def diagnosis(self, given):
         self.standing()
@@ -256,6 +279,9 @@ class Axis:
 
 
 # ---- the vectors
+CALCULATED = "# Calculated apart by model/axis.py: "  # begins each section that this script prints
+
+
 def axis_line(a):
     numbers = f"{a.r} {a.t} 0000 {a.octet:02x} {a.units} {a.total}"
     return f"axis  4  {numbers} {a.life} {a.speed}" if a.class4 else f"axis  2  {numbers}"
@@ -278,9 +304,19 @@ def lent(octets):
     return " ".join([" "] + [f"{o:02x}" for o in octets])
 
 
+def cycle_answer(a, cycle, given):
+    """The lines under a cycle: the axis or the refusal, the link, and the lent octets as the cycle leaves them."""
+    try:
+        given = cycle(given)
+        first = shown(a)
+    except Refused as n:
+        first = f"  refused {n}"
+    return [first, a.link.shown(), lent(given)]
+
+
 class Script:
     def __init__(self, seed):
-        self.random, self.lines, self.calls, self.cycles = random.Random(seed), [], 0, 0
+        self.random, self.lines, self.calls, self.cycles, self.measured = random.Random(seed), [], 0, 0, 0
 
     def number(self, a):
         """A raw number: near the last, at the other side of the sensor, anywhere, or past its end."""
@@ -350,22 +386,31 @@ class Script:
         stw2 = pick(0.85) * 0x0400 + self.random.choice([0, 0, 0xFBFF])
         return stw2.to_bytes(2, "big") + (stw + self.random.choice([0, 0x07FF])).to_bytes(2, "big")
 
-    def exchange(self, a):
+    def brought(self, a, size):
+        """What a cycle brings: raw number, output octets, lent input octets."""
         raw, out = self.number(a), self.output(a)
         if self.random.random() < 0.3:
             raw = a.c if self.random.random() < 0.5 else a.last
-        given = b"\xee" * (12 if a.class4 else 4)
+        given = b"\xee" * size
         if self.random.random() < 0.04:
             given = given[1:]
+        return raw, out, given
+
+    def exchange(self, a):
+        raw, out, given = self.brought(a, 12 if a.class4 else 4)
         self.lines.append(" ".join(["exchange", str(len(given)), str(raw)] + [f"{o:02x}" for o in out]))
         self.calls += 1
         self.cycles += 1
-        try:
-            given = a.cycle(raw, out, given)
-            self.lines.append(shown(a))
-        except Refused as n:
-            self.lines.append(f"  refused {n}")
-        self.lines += [a.link.shown(), lent(given)]
+        self.lines += cycle_answer(a, lambda octets: a.cycle(raw, out, octets), given)
+
+    def measure(self, a):
+        raw, out, given = self.brought(a, 16)
+        e = self.random.choice([0] + [1, 2, 7, 100, 1000] * 2 + [65535])
+        self.lines.append(" ".join(["measured", str(len(given)), str(raw), str(e)] + [f"{o:02x}" for o in out]))
+        self.calls += 1
+        self.cycles += 1
+        self.measured += 1
+        self.lines += cycle_answer(a, lambda octets: a.cycle83(raw, e, out, octets), given)
 
     def diagnose(self, a):
         size = (57 if a.on else 10) + self.random.choice([0, 0, 0, 1, -1])
@@ -388,16 +433,11 @@ class Script:
         for _ in range(cycles):
             kind = self.random.random()
             if kind < 0.12:
-                v = self.some_value(a)
-                self.lines.append(f"hold     {v}")
-                self.calls += 1
-                self.lines += answer(a, lambda: a.hold(v))
+                self.hold(a)
             elif kind < 0.17:
                 self.diagnose(a)
             elif kind < 0.20:
-                k = a.link
-                k.faulty, k.bit, k.error, k.seen, k.executed = (self.random.randrange(2) for _ in range(5))
-                self.lines.append(f"keep     {k.faulty} {k.bit} {k.error} {k.seen} {k.executed}")
+                self.keep(a)
             elif kind < 0.24:
                 self.given(a)
             elif kind < 0.28:
@@ -405,12 +445,43 @@ class Script:
             self.exchange(a)
         self.diagnose(a)
 
-    def given(self, a):
+    def talk83(self, a, cycles):
+        """Cycles of telegram 83 on one axis, and between them what `talk` has between its own, with cycles of telegram 81."""
+        self.begin(a)
+        for _ in range(cycles):
+            kind = self.random.random()
+            if kind < 0.15:
+                self.hold(a)
+            elif kind < 0.20:
+                self.keep(a)
+            elif kind < 0.27:
+                self.given(a)
+            elif kind < 0.33:
+                self.call(a)
+            elif kind < 0.55:
+                self.exchange(a)
+            self.measure(a)
+            if not a.acceptable():
+                self.given(a, [None])  # else the rest would be refused too
+
+    def hold(self, a):
+        v = self.some_value(a)
+        self.lines.append(f"hold     {v}")
+        self.calls += 1
+        self.lines += answer(a, lambda: a.hold(v))
+
+    def keep(self, a):
+        """A link that is brought."""
+        k = a.link
+        k.faulty, k.bit, k.error, k.seen, k.executed = (self.random.randrange(2) for _ in range(5))
+        self.lines.append(f"keep     {k.faulty} {k.bit} {k.error} {k.seen} {k.executed}")
+
+    def given(self, a, pasts=(None, None, None, "place", "last", "offset", "preset", "held")):
         """A record that is brought: within its limits, or past one of them."""
         pick = lambda limit: self.random.choice([0, limit - 1, self.random.randrange(limit), self.random.randrange(limit)])
         a.place, a.last = pick(a.r * a.span), pick(a.c)
         a.offset, a.preset, a.held = (self.random.choice([1, -1]) * pick(a.span) for _ in range(3))
-        past = self.random.choice([None, None, None, "place", "last", "offset", "preset", "held"])
+        past = self.random.choice(pasts)
         if past == "place":
             a.place = a.r * a.span
         elif past == "last":
@@ -455,39 +526,137 @@ def large(rng):
     return Axis(class4, 65536, 32768, octet, units, total, 1, rng.randrange(4))
 
 
-def vectors():
+# ---- lines that stand in the vectors, made again
+NO_PART = ("telegram", "block", "write", "velocity", "diagnose", "serial")  # change nothing that a cycle looks at
+TIMES = (1, 10, 7, 1000, 65535, 2)
+
+
+def blocks(lines):
+    """From each `axis` line up to the next: the lines without the comments, each with the answers under it."""
+    found = [[]]
+    for line in lines:
+        if line.startswith("axis"):
+            found.append([])
+        if line.startswith("  "):
+            found[-1][-1][1].append(line)
+        elif line and not line.startswith("#"):
+            found[-1].append((line, []))
+    return found[1:]  # what stands before the first axis belongs to none
+
+
+def axis_of(line):
+    """The axis of a line `axis  4 ..`."""
+    r, t, _, octet, units, total, life, speed = line.split()[2:]
+    return Axis(True, int(r), int(t), int(octet, 16), int(units), int(total), int(life), int(speed))
+
+
+def answer_to(a, line):
+    """The lines under a line that stands, or under a cycle of telegram 83."""
+    kind, *words = line.split()
+    if kind == "measured":
+        size, raw, e = (int(w) for w in words[:3])
+        out = bytes(int(w, 16) for w in words[3:])
+        return cycle_answer(a, lambda octets: a.cycle83(raw, e, out, octets), b"\xee" * size)
+    numbers = [int(w) for w in words]
+    if kind == "given":
+        a.place, a.last, a.offset, a.preset, a.held = numbers
+        return []
+    if kind == "keep":
+        k = a.link
+        k.faulty, k.bit, k.error, k.seen, k.executed = numbers
+        return []
+    if kind == "list":
+        out = [7] * numbers[0]
+        return answer(a, lambda: a.batch(numbers[1:], out)) + [" ".join(["  list"] + [str(p) for p in out])]
+    calls = {"first": a.start, "number": a.read_raw, "reading": a.read, "hold": a.hold}
+    calls.update(preset=lambda v: a.set_preset(v, False), change=lambda v: a.set_preset(v, True))
+    return answer(a, lambda: calls[kind](*numbers))
+
+
+def repeated(script, standing):
+    """Each class 4 axis that runs by telegram 81 alone, once more by telegram 83: all but NIST_B must be as it stands."""
+    times = itertools.cycle(TIMES)
+    script.lines.append(CALCULATED + "the cycles of telegram 81 above once more, each as telegram 83")
+    for block in blocks(standing):
+        kinds = [line.split()[0] for line, _ in block]
+        if block[0][0].startswith("axis  4") and "exchange" in kinds and "measured" not in kinds:
+            repeat(script, [(line, stands) for kind, (line, stands) in zip(kinds, block) if kind not in NO_PART], times)
+
+
+def repeat(script, block, times):
+    a = axis_of(block[0][0])
+    script.lines.append(block[0][0])
+    for line, stands in block[1:]:
+        kind, *words = line.split()
+        if kind != "exchange":
+            under = answer_to(a, line)
+            assert under == stands, line
+        else:
+            size, raw, *out = words
+            line = " ".join(["measured", str(int(size) + 4), raw, str(next(times))] + out)
+            under = answer_to(a, line)
+            axis, link, octets = under
+            assert [axis, link, octets[: -len(" ee") * 4]] == stands, line  # four octets more
+            script.cycles += 1
+            script.measured += 1
+        script.calls += 1 if under else 0
+        script.lines += [line] + under
+
+
+def vectors(by_hand):
     script = Script(2026)
     rng = random.Random(1)
-    script.lines.append("# Calculated apart by model/axis.py: small sensors, R 2 to 12 and T 1 to 6")
+    script.lines.append(CALCULATED + "small sensors, R 2 to 12 and T 1 to 6")
     for _ in range(24):
         script.run(small(rng), 9)
-    script.lines.append("# Calculated apart by model/axis.py: the largest sensor, R = 65536 and T = 32768")
+    script.lines.append(CALCULATED + "the largest sensor, R = 65536 and T = 32768")
     for _ in range(10):
         script.run(large(rng), 8)
     talks(script, random.Random(2))
+    standing = by_hand + script.lines
+    script.random = random.Random(83)
+    talks83(script, random.Random(3))
+    repeated(script, standing)
     return script
 
 
 def talks(script, rng):
-    script.lines.append("# Calculated apart by model/axis.py: cycles of both classes and diagnoses, small sensors and the largest")
+    script.lines.append(CALCULATED + "cycles of both classes and diagnoses, small sensors and the largest")
     for n in range(20):
         a = large(rng) if n % 5 == 4 else small(rng)
         a.octet |= rng.choice([0, 4])
         script.talk(a, 16)
 
 
+def talks83(script, rng):
+    script.lines.append(CALCULATED + "cycles of telegram 83, some of telegram 81 between them, small sensors and the largest, all speed units")
+    for n in range(12):
+        a = of_class(rng, small if n < 8 else large, True)
+        a.octet |= rng.choice([0, 4])
+        a.speed = n % 4
+        script.talk83(a, 12)
+    for _ in range(2):
+        script.talk83(of_class(rng, small, False), 4)
+
+
+def of_class(rng, draw, class4):
+    a = draw(rng)
+    return a if a.class4 == class4 else of_class(rng, draw, class4)
+
+
 def main():
-    script = vectors()
-    if "--check" not in sys.argv[1:]:
-        print("\n".join(script.lines))
-        print(f"{script.calls} calls, {script.cycles} of them cycles", file=sys.stderr)
-        return
     folder = os.path.join(os.path.dirname(os.path.abspath(__file__)), os.pardir, "crates", "vectors")
     stdout = open(os.path.join(folder, "stdout"), encoding="utf-8").read().split("\n")
+    script = vectors(list(itertools.takewhile(lambda line: not line.startswith(CALCULATED), stdout)))
+    counts = f"{script.calls} calls, {script.cycles} of them cycles, {script.measured} of these of telegram 83"
+    if "--check" not in sys.argv[1:]:
+        print("\n".join(script.lines))
+        print(counts, file=sys.stderr)
+        return
     stdin = open(os.path.join(folder, "stdin"), encoding="utf-8").read().split("\n")
     calculated = stdout[-len(script.lines) - 1 : -1] == script.lines
     asked = [line for line in stdout if not line.startswith("  ")] == stdin
-    print(f"{script.calls} calls, {script.cycles} of them cycles: {'as' if calculated else 'NOT as'} calculated; stdin {'is' if asked else 'is NOT'} stdout without the answers")
+    print(f"{counts}: {'as' if calculated else 'NOT as'} calculated; stdin {'is' if asked else 'is NOT'} stdout without the answers")
     sys.exit(0 if calculated and asked else 1)
 
 

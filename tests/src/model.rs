@@ -10,9 +10,14 @@ pub const REVOLUTION_UNITS: u8 = 4;
 pub const TOTAL_RANGE: u8 = 5;
 pub const SPEED_UNIT: u8 = 6;
 pub const PLATE: u8 = 7;
+pub const STEP: u8 = 8;
 pub const TURN: u8 = 9;
 pub const HALF_RANGE: u8 = 10;
+pub const PRESET: u8 = 11;
+pub const CLASS_OFF: u8 = 12;
 pub const BUFFER: u8 = 13;
+pub const ELAPSED: u8 = 14;
+pub const NO_AXIS: u8 = 16;
 
 /// The part of the nameplate that the axis needs: R steps per turn and T turns.
 #[derive(Clone, Copy, Debug)]
@@ -52,7 +57,7 @@ pub struct Telegram {
     pub parameters_length: usize,
 }
 
-fn refuse_if(condition: bool, number: u8) -> Result<(), u8> {
+pub(crate) fn refuse_if(condition: bool, number: u8) -> Result<(), u8> {
     if condition {
         Err(number)
     } else {
@@ -61,8 +66,8 @@ fn refuse_if(condition: bool, number: u8) -> Result<(), u8> {
 }
 
 /// Bit 0 is the least significant.
-fn bit(octet: u8, number: u32) -> bool {
-    octet >> number & 1 == 1
+pub(crate) fn bit(octets: impl Into<u32>, number: u32) -> bool {
+    octets.into() >> number & 1 == 1
 }
 
 /// Octets are counted from 1.
@@ -71,12 +76,12 @@ fn octet(octets: &[u8], at: usize) -> u8 {
 }
 
 /// The number in octets `from` to `to`, the most significant first.
-fn number(octets: &[u8], from: usize, to: usize) -> u32 {
+pub(crate) fn number(octets: &[u8], from: usize, to: usize) -> u32 {
     octets[from - 1..to].iter().fold(0, |sum, octet| sum * 256 + u32::from(*octet))
 }
 
 impl Plate {
-    fn check(&self) -> Result<(), u8> {
+    pub(crate) fn check(&self) -> Result<(), u8> {
         let within = (2..=65_536).contains(&self.steps) && (1..=32_768).contains(&self.turns);
         refuse_if(!within, PLATE)
     }
@@ -88,11 +93,11 @@ impl Plate {
 }
 
 impl Parameters {
-    fn is_class_four(&self) -> bool {
+    pub(crate) fn is_class_four(&self) -> bool {
         self.class4 != 0
     }
 
-    fn class_on(&self) -> bool {
+    pub(crate) fn class_on(&self) -> bool {
         bit(self.operating, 1)
     }
 
@@ -115,7 +120,7 @@ impl Parameters {
         required.iter().all(|(number, state)| bit(self.operating, *number) == *state)
     }
 
-    fn check(&self, plate: &Plate) -> Result<(), u8> {
+    pub(crate) fn check(&self, plate: &Plate) -> Result<(), u8> {
         refuse_if(!self.reserved_bits_hold(), RESERVED_BIT)?;
         if self.scaling_in_force() {
             let (units, range) = (i128::from(self.units), i128::from(self.range));
@@ -128,15 +133,15 @@ impl Parameters {
 
 /// A started axis. Letters as in document 01; there is no offset, since a batch makes no preset.
 pub struct Axis {
-    r: i128,
+    pub(crate) r: i128,
     c: i128,
-    m: i128,
-    l: i128,
+    pub(crate) m: i128,
+    pub(crate) l: i128,
     code_sequence: bool,
     oriented: i128,
     /// The paper keeps the place modulo R × L. Here it is kept whole: taking R × L away changes place × M / R by
     /// L × M, a multiple of L, so the positions must be the same, and a wrong reduction shows as a difference.
-    place: i128,
+    pub(crate) place: i128,
 }
 
 impl Axis {

@@ -1,10 +1,13 @@
 // Cycles and diagnoses, on the axis and the link that the line before left. Octets are hexadecimal, other numbers decimal.
 use crate::answer;
 use crate::call;
+use crate::parse::Parsed;
 use crate::parse::decimal;
 use crate::vector::octets;
 use axis::Axis;
+use cyclic::Cycled;
 use cyclic::cycle;
+use cyclic::telegram83::cycle_83;
 use cyclic_link::Link;
 use diagnosis::diagnosis;
 
@@ -23,7 +26,7 @@ pub(crate) fn none() -> Bench {
 
 pub(crate) fn run(bench: Bench, word: u8, line: &[u8]) -> Bench {
     match word {
-        b'e' => exchange(bench, line),
+        b'e' | b'm' => exchange(bench, word, line),
         b'd' => diagnose(bench, line),
         b'k' => keep(bench, line),
         _ => called(bench, word, line),
@@ -42,26 +45,64 @@ fn called(bench: Bench, word: u8, line: &[u8]) -> Bench {
     next
 }
 
-// `exchange`: how many input octets are lent, each of them EEh, the raw number, and the output octets.
-fn exchange(bench: Bench, line: &[u8]) -> Bench {
+// `exchange`: how many input octets are lent, each of them EEh, the raw number, and the output octets. `measured`, a cycle of telegram 83: the
+// same, with the milliseconds behind the raw number.
+fn exchange(bench: Bench, word: u8, line: &[u8]) -> Bench {
     let size = decimal(line, 8);
     let raw = decimal(line, size.next);
+    let time = elapsed(word, line, raw);
     let mut output = [0u8; 64];
-    let n = octets(line, raw.next, &mut output);
+    let n = octets(line, time.next, &mut output);
     let m = size.value as usize;
     let mut input = [0xee; 64];
     if 64 < m {
         return bench;
     }
-    cycled(bench, raw.value, &output[..n], &mut input[..m])
+    cycled(
+        bench,
+        word,
+        raw.value,
+        time.value,
+        &output[..n],
+        &mut input[..m],
+    )
 }
 
-fn cycled(bench: Bench, raw: u32, output: &[u8], input: &mut [u8]) -> Bench {
-    let next = cycle(bench.axis, bench.link, raw, output, input);
+// The milliseconds, or the raw number before them where there are none.
+fn elapsed(word: u8, line: &[u8], raw: Parsed) -> Parsed {
+    if word == b'm' {
+        return decimal(line, raw.next);
+    }
+    raw
+}
+
+fn cycled(bench: Bench, word: u8, raw: u32, time: u32, output: &[u8], input: &mut [u8]) -> Bench {
+    let next = run_cycle(bench, word, raw, time, output, input);
     answer::cycled(next, input);
     let axis = next.axis;
     let link = next.link;
     Bench { axis, link }
+}
+
+fn run_cycle(
+    bench: Bench,
+    word: u8,
+    raw: u32,
+    time: u32,
+    output: &[u8],
+    input: &mut [u8],
+) -> Cycled {
+    if word == b'm' {
+        return cycle_83(
+            bench.axis,
+            bench.link,
+            raw,
+            (time % 65536) as u16,
+            output,
+            input,
+        );
+    }
+    cycle(bench.axis, bench.link, raw, output, input)
 }
 
 // `diagnose`: how many octets are lent, each of them EEh.

@@ -4,5 +4,6 @@ use Rattle.vectors.proofs.{ParseLaws.needs, bench.exchange.Statement.st
 
 pub exchange-spec : {M : Type 1} → statement M
 exchange-spec = close (spec
-    (λ c κs. search needs) (λ c κs. search needs) (λ c. search needs) (λ c κs. search needs) (λ c. search needs) (λ c. search needs)
-    (λ c. search needs) (λ c. search needs) (λ c. search needs) (λ c. simp length-take (omega arith)) (λ c κs. search needs) (λ c. search needs))
+    (λ c κs. search needs) (λ c κs. search needs) (λ c κs. search needs) (λ c. search needs) (λ c κs. search needs) (λ c. search needs)
+    (λ c. search needs) (λ c. search needs) (λ c. search needs) (λ c. search needs) (λ c. simp length-take (omega arith)) (λ c κs. search needs)
+    (λ c. search needs))

@@ -1,0 +1,161 @@
+//! The stored vectors of crates/vectors, and a few for telegram 83 worked out by hand, against the model.
+
+use encoder_tests::cycle::{Device, Link, Numbers};
+use encoder_tests::model::{Parameters, Plate};
+use std::collections::BTreeMap;
+use std::fmt::Debug;
+use std::path::Path;
+use std::str::FromStr;
+
+/// Calls, by class and kind, that must be in the stored vectors at least: the test cannot pass emptily.
+const LEAST: [(&str, usize); 4] = [("4 exchange", 186), ("4 measured", 389), ("2 exchange", 259), ("2 measured", 14)];
+
+/// Lines that leave the axis as it is and whose answers are not calculated here.
+const PASSED_OVER: [&str; 5] = ["telegram", "block", "write", "serial", "diagnose"];
+
+fn decimal<T: FromStr<Err: Debug>>(word: &str) -> T {
+    word.parse().expect("a decimal number within its limits")
+}
+
+fn hexadecimal(word: &str) -> u8 {
+    u8::from_str_radix(word, 16).expect("an octet")
+}
+
+/// The words behind `axis`: class, R, T, ident and the parameters.
+fn device(words: &[&str]) -> Device {
+    let class4 = u8::from(words[0] == "4");
+    assert_eq!(words.len(), if class4 == 1 { 9 } else { 7 }, "words of an axis");
+    let plate = Plate { steps: decimal(words[1]), turns: decimal(words[2]) };
+    let (operating, units, range) = (hexadecimal(words[4]), decimal(words[5]), decimal(words[6]));
+    let [life, speed] = [7, 8].map(|at| words.get(at).map_or(0, |word| decimal(word)));
+    let parameters = Parameters { class4, operating, units, range, life, speed };
+    Device { plate, parameters, numbers: None, link: Link::default() }
+}
+
+fn numbers(words: &[&str]) -> Numbers {
+    let [place, offset, preset, held] = [0, 2, 3, 4].map(|at| decimal(words[at]));
+    Numbers { place, last: decimal(words[1]), offset, preset, held }
+}
+
+fn link(words: &[&str]) -> Link {
+    let [faulty, counted, error, acknowledge, executed] = [0, 1, 2, 3, 4].map(|at| words[at] == "1");
+    Link { faulty, counted, error, acknowledge, executed }
+}
+
+/// The axis as a call has left it, or the refusal.
+fn axis_line(device: &Device, answer: Result<(), u8>) -> String {
+    if let Err(number) = answer {
+        return format!("  refused {number}");
+    }
+    let axis = device.started().expect("an accepted call leaves a started axis");
+    let Numbers { offset, preset, held, .. } = axis.numbers;
+    let (position, unshifted) = (axis.position(), axis.unshifted());
+    format!("  at {position} unshifted {unshifted} offset {offset} preset {preset} stored {held}")
+}
+
+fn list_line<T>(begin: &str, list: &[T], show: impl Fn(&T) -> String) -> String {
+    begin.to_string() + &list.iter().map(show).collect::<String>()
+}
+
+fn velocity(device: &Device, words: &[&str]) -> Vec<String> {
+    let answer = device.velocity(decimal(words[0]), decimal(words[1]), decimal(words[2]));
+    vec![answer.map_or_else(|number| format!("  refused {number}"), |velocity| format!("  velocity {velocity}"))]
+}
+
+/// The lent positions hold 7 before the call.
+fn list(device: &mut Device, words: &[&str]) -> Vec<String> {
+    let mut positions = vec![7; decimal(words[0])];
+    let raws: Vec<u32> = words[1..].iter().map(|word| decimal(word)).collect();
+    let answer = device.pass(&raws, &mut positions);
+    vec![axis_line(device, answer), list_line("  list", &positions, |position| format!(" {position}"))]
+}
+
+/// Length of the input, raw number, milliseconds if measured, and the output. The input holds EEh before the call.
+fn cycle(device: &mut Device, measured: bool, words: &[&str]) -> Vec<String> {
+    let (mut input, raw) = (vec![0xEE; decimal(words[0])], decimal(words[1]));
+    let octets = |from: usize| words[from..].iter().map(|word| hexadecimal(word)).collect::<Vec<u8>>();
+    let answer = if measured {
+        device.measured(raw, decimal(words[2]), &octets(3), &mut input)
+    } else {
+        device.exchange(raw, &octets(2), &mut input)
+    };
+    let Link { faulty, counted, error, acknowledge, executed } = device.link;
+    let kept = [faulty, counted, error, acknowledge, executed];
+    vec![
+        axis_line(device, answer),
+        list_line("  link", &kept, |state| format!(" {}", u8::from(*state))),
+        list_line(" ", &input, |octet| format!(" {octet:02x}")),
+    ]
+}
+
+/// Carries a call out and gives the lines of its answer.
+fn answer(device: &mut Device, kind: &str, words: &[&str]) -> Vec<String> {
+    let answer = match kind {
+        "first" => device.start(decimal(words[0]), decimal(words[1])),
+        "reading" => device.reading(decimal(words[0]), decimal(words[1])),
+        "number" => device.number(decimal(words[0])),
+        "preset" | "change" => device.preset(decimal(words[0]), kind == "change"),
+        "hold" => device.hold(decimal(words[0])),
+        "velocity" => return velocity(device, words),
+        "list" => return list(device, words),
+        "exchange" | "measured" => return cycle(device, kind == "measured", words),
+        _ => panic!("unknown call"),
+    };
+    vec![axis_line(device, answer)]
+}
+
+/// Names the line in which the test fails, for whatever reason.
+struct Line<'a>(usize, &'a str);
+
+impl Drop for Line<'_> {
+    fn drop(&mut self) {
+        if std::thread::panicking() {
+            println!("line {}: {}", self.0, self.1);
+        }
+    }
+}
+
+/// Replays a text and counts the calls, by class and kind, whose answers are those of the model.
+fn replay(text: &str) -> BTreeMap<String, usize> {
+    let lines: Vec<&str> = text.lines().collect();
+    let (mut axis, mut counts) = (None, BTreeMap::new());
+    for (index, call) in lines.iter().enumerate() {
+        let _line = Line(index + 1, call);
+        let words: Vec<&str> = call.split_whitespace().collect();
+        if words.is_empty() || call.starts_with(['#', ' ']) || PASSED_OVER.contains(&words[0]) {
+            continue;
+        }
+        if words[0] == "axis" {
+            axis = Some(device(&words[1..]));
+            continue;
+        }
+        let device = axis.as_mut().expect("an axis before the call");
+        let stored: Vec<&str> = lines[index + 1..].iter().copied().take_while(|line| line.starts_with("  ")).collect();
+        match words[0] {
+            "given" => device.numbers = Some(numbers(&words[1..])),
+            "keep" => device.link = link(&words[1..]),
+            kind => assert_eq!(stored, answer(device, kind, &words[1..]), "left as stored, right as calculated"),
+        }
+        let class = if device.parameters.class4 == 1 { 4 } else { 2 };
+        *counts.entry(format!("{class} {}", words[0])).or_default() += 1;
+    }
+    counts
+}
+
+#[test]
+fn stored_answers() {
+    let path = Path::new(env!("CARGO_MANIFEST_DIR")).join("../crates/vectors/stdout");
+    let counts = replay(&std::fs::read_to_string(path).expect("crates/vectors/stdout is there"));
+    println!("calls by class and kind: {counts:?}");
+    for (kind, least) in LEAST {
+        let count = counts.get(kind).copied().unwrap_or(0);
+        println!("class {kind}: {count} calls calculated again");
+        assert!(count >= least, "class {kind}: at least {least} wanted");
+    }
+}
+
+#[test]
+fn telegram_83_by_hand() {
+    let counts = replay(include_str!("telegram83.txt"));
+    assert_eq!((counts["4 measured"], counts["2 measured"]), (11, 2));
+}
