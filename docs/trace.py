@@ -1,5 +1,5 @@
 #!/usr/bin/env python3
-"""Checks a trace table against the repository: python3 docs/trace.py docs/TRACE.md . [PAPER]
+"""Checks a trace table against the repository: python3 docs/trace.py docs/TRACE.md . [PAPER..]
 
 It checks in the second and third column that
 - each backticked path exists;
@@ -9,7 +9,7 @@ It checks in the second and third column that
 - each text quoted after "starred" is a remark of crates/starred_values/specs/Starred.antt;
 - any other quoted text stands in the file that is named next.
 
-With PAPER it also checks that the first column is taken from the paper, piece by piece (" .. " marks what is left out).
+With papers it also checks that the first column is taken from one of them, piece by piece (" .. " marks what is left out).
 """
 import os
 import re
@@ -102,13 +102,24 @@ def plain(text):
     return re.sub(r"\s+", " ", re.sub(r"[|`*]", " ", text)).strip()
 
 
-def main(trace, root, paper=None):
+def stands(pieces, paper):
+    """The pieces stand in the paper, one behind the other."""
+    at = 0
+    for piece in pieces:
+        found = paper.find(plain(piece), at)
+        if found < 0:
+            return False
+        at = found + len(plain(piece))
+    return True
+
+
+def main(trace, root, *papers):
     wrong, rows, dashes, heading, edits = [], {}, [], "", set()
-    whole = plain(open(paper, encoding="utf-8").read()) if paper else None
+    texts = [plain(open(paper, encoding="utf-8").read()) for paper in papers]
     for n, line in enumerate(open(trace, encoding="utf-8"), 1):
         if line.startswith("## "):
             heading = line[3:].strip()
-        if not line.startswith("|") or line.startswith("|---") or line.startswith("| Document 01"):
+        if not line.startswith("|") or line.startswith("|---") or line.startswith("| Document 0"):
             continue
         cells = [c.strip() for c in line.strip().strip("|").split(" | ")]
         if len(cells) != 3:
@@ -120,14 +131,8 @@ def main(trace, root, paper=None):
         for c in cells[1:]:
             cell(root, c, wrong, f"line {n}")
         edits.update(t for t in re.findall(r"`([^`]+)`", cells[2]) if is_edit(t))
-        if whole:
-            at = 0
-            for piece in cells[0].split(" .. "):
-                found = whole.find(plain(piece), at)
-                if found < 0:
-                    wrong.append(f"line {n}: the paper has no {piece!r} (behind what stands before it)")
-                    break
-                at = found + len(plain(piece))
+        if texts and not any(stands(cells[0].split(" .. "), text) for text in texts):
+            wrong.append(f"line {n}: no paper has {cells[0]!r}")
     for w in wrong:
         print(w)
     print(f"{sum(rows.values())} rows: " + ", ".join(f"{h} {k}" for h, k in rows.items()))
