@@ -11,11 +11,14 @@ use Rattle.axis_velocity.specs.{factorOf, rateOf}
 use Rattle.cyclic_link.specs.{Class4.made, Class4.link, held, zsw}
 use Rattle.cyclic.specs.{faultyAt, takenAt, counted, Class4.axis, Class4.input, linkAfter, axisAfter, inputOf, nistB, input83, refusal83, cycle83Refusal}
 use Rattle.cyclic.specs.{cycle83Input}
-use Rattle.accuracy.specs.{First, firstReading, Call, measuring, startBy, deed, Program, Supposed, withReadings, Accurate, Claim.Claim, shiftsOctets, device4, opened}
+use Rattle.accuracy.specs.{First, firstReading, Call, measuring, Device, startBy, deed, Program, Supposed, withReadings, Accurate, Claim.Claim, shiftsOctets, device4, opened}
 use Rattle.accuracy.specs.Worked.{o}
 use Rattle.accuracy.proofs.{OneUnit.told, Listing.steady, Listing.event}
 
 -- class 4 at step 2 of turn 0, which is raw number 2 and oriented number 28; it stands still for 1 ms
+abbrev device : Device
+device = device4 0x2b
+
 abbrev there : First
 there = firstReading 2 0
 
@@ -23,13 +26,13 @@ abbrev measures : Call
 measures = measuring 2 1 (o 4 0 0 0) (o 0 0 0 0 ++ o 0 0 0 0 ++ o 0 0 0 0 ++ o 0 0 0 0)
 
 abbrev first : (p : Program) → p .State
-first p = p .start (device4 0x2b .plate) (device4 0x2b .parameters) there
+first p = p .start (device .plate) (device .parameters) there
 
-started-there : startBy (device4 0x2b) there ≡ 0
+started-there : startBy device there ≡ 0
 unfolding startRefusal stepRefusal refusalOn plateRefusal fieldsRefusal
 started-there = refl
 
-stands-still : Supposed (device4 0x2b) 2 (deed (device4 0x2b) (opened (device4 0x2b) 2) measures .numbers) (steady (pos 0))
+stands-still : Supposed device 2 (deed device (opened device 2) measures .numbers) (steady (pos 0))
 unfolding Supposed refusal83 moveRefusal difference oriented _modulo_ rulesOf
 stands-still = (record { small = omega arith; times = pos 0; same = refl }, tt)
 
@@ -40,8 +43,8 @@ shows = refl
 read-there : (p : Program) → Claim p → p .lent (first p) measures ≡ o 0 0 0 0 ++ o 0x02 0x00 0x20 0x00 ++ o 0 0 0 1 ++ o 0 0 0 1 → ⊥
 unfolding Accurate withReadings refusal83 bigEndian counted held moveRefusal difference oriented _modulo_ rulesOf
 read-there p h e =
-    let t = h (device4 0x2b) there started-there (event measures (pos 0) ∷ []) .1 stands-still .1 in
-    let a = told (device4 0x2b) _ 0x02002000 ((rw e at t) refl .xist1 refl refl) in
+    let t = h device there started-there (event measures (pos 0) ∷ []) .1 stands-still .1 in
+    let a = told device _ 0x02002000 ((rw e at t) refl .xist1 refl refl) in
     omega arith
 
 pub no-shiftsOctets : Claim shiftsOctets → ⊥

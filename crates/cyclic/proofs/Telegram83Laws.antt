@@ -10,7 +10,7 @@ use Rattle.encoder.proofs.{and-split, before-none, when-none}
 use Rattle.axis_shaft.specs.{Shaft, moveOf, moved}
 use Rattle.axis_velocity.specs.{MovedAt, declared.MovedAt.the-variants.To as ToAt, declared.MovedAt.the-variants.Refused as NotMovedAt, velocityOf, movedAt}
 use Rattle.axis_velocity.proofs.{rate-fits, at-moved, at-stays}
-use Rattle.axis.specs.{Axis, rulesOn, Ready, accepted, refused, withShaft, readRaw}
+use Rattle.axis.specs.{Axis, Next, rulesOn, Ready, accepted, refused, withShaft, readRaw}
 use Rattle.axis.proofs.{take-to, take-no, stands-none}
 use Rattle.cyclic_link.specs.{Link}
 use Rattle.cyclic.specs.{Cycled, Measured, faultyAt, Class4.input, class4, wordBy, inputBy, responded, axisAfter, inputOf, linkLeft}
@@ -31,7 +31,7 @@ module _ (a : Axis) (f : InForce) (r : Ready a f) (raw e : ℕ) (some : 0 < e) (
     velocity-is = let i = at-moved f (a .shaft) raw e some q q-is k v h .1 in rw (i, reads (rate-fits f (moveOf f (a .shaft .last .0) raw) e))
 
     pub measured-at : _≡_ {A = Measured} (record { next = accepted (withShaft a k); velocity = toZ w32 (ofZ w32 v) }) (measured a raw e)
-    measured-at = rw (next-at, nist-at (toZ w32 (ofZ w32 v)) (ap (λ (x : _). x .refusal) (sym next-at)) velocity-is)
+    measured-at = rw (next-at, nist-at (toZ w32 (ofZ w32 v)) (ap (λ (x : Next). x .refusal) (sym next-at)) velocity-is)
 
     pub measured-ready : Ready (withShaft a k) f
     measured-ready = read-ready a f r raw (accepted (withShaft a k)) next-at

@@ -57,7 +57,14 @@ inputLeft a k raw output = inputOf (linkLeft a k raw output) (axisAfter a k raw 
 abbrev pub done : Axis → Link → Cycled
 done a k = record { axis = a; link = k; refusal = 0 }
 
--- the same once the raw number has been answered by x: the reaction to the output octets, and the preset that it makes
+abbrev pub refused : Axis → Link → ℕ → Cycled
+refused a k n = record { axis = a; link = k; refusal = n }
+
+abbrev pub cycled : Axis → Link → Axis → Link → ℕ → Cycled
+cycled a k b j n = answer (refused a k) (done b j) n
+
+-- the part of an accepted cycle that follows on the raw number, where x is the answer to that number: the reaction to the output octets, then the axis
+-- with the preset that the reaction makes, and its link
 abbrev pub reactionTo : Bool → InForce → Link → Next → List ℕ → Reaction
 reactionTo class f k x output = reaction class f k (not (eqb (x .refusal) 0)) (wordBy class output) (x .axis .stored)
 
@@ -66,12 +73,7 @@ responded class f k x output =
     let q = reactionTo class f k x output in
     done (presetBy (x .axis) (q .preset)) (q .link)
 
-abbrev pub refused : Axis → Link → ℕ → Cycled
-refused a k n = record { axis = a; link = k; refusal = n }
-
-abbrev pub cycled : Axis → Link → Axis → Link → ℕ → Cycled
-cycled a k b j n = answer (refused a k) (done b j) n
-
+-- the whole call
 unfoldable pub cycle : Axis → Link → ℕ → List ℕ → List ℕ → Cycled
 cycle a k raw output input = cycled a k (axisAfter a k raw output) (linkLeft a k raw output) (cycleRefusal a output input)
 

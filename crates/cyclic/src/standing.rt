@@ -47,7 +47,7 @@ pub(crate) struct Measured {
     pub velocity: i32,
 }
 
-// The same, with the velocity. A faulty cycle has none.
+// Takes the raw number as `take` does, and measures the velocity of its move: from the axis as it stands before. In a faulty cycle it is 0.
 pub(crate) fn measure(axis: Axis, rules: InForce, raw: u32, elapsed: u16) -> Measured
     requires { ⌜ Ready axis rules × (0 < elapsed) ⌝ }
     ensures { λ r. ⌜ (r ≡ measured axis raw elapsed) × Ready (r .next .axis) rules ⌝ }

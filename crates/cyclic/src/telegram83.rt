@@ -73,11 +73,11 @@ fn refusal_of(class4: bool, output: usize, input: usize, elapsed: u16) -> u8
     ensures { λ r. ⌜ r ≡ refusal83 class4 output input elapsed ⌝ }
 {
     let buffer = when(!(class4 & (output == 4) & (input == 16)), refusal::BUFFER);
-    let elapsed = when(elapsed == 0, refusal::ELAPSED);
-    first(buffer, elapsed)
+    let time = when(elapsed == 0, refusal::ELAPSED);
+    first(buffer, time)
 }
 
-// One cycle with class, buffers and elapsed time as they should be. The velocity is measured before the axis moves.
+// One cycle with class, buffers and elapsed time as they should be.
 fn exchange(
     fields: Fields,
     axis: Axis,
