@@ -11,8 +11,9 @@ mod vector;
 use bytes::scan::find;
 use libc::STDIN_FILENO;
 
+// Reads the lines, 262,144 octets at the most.
 fn main() {
-    let mut space = io::large_buffer();
+    let mut space = [0u8; 262144];
     let n = io::read_full(STDIN_FILENO, &mut space);
     lines(&space[..n]);
 }
