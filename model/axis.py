@@ -1,11 +1,11 @@
 #!/usr/bin/env python3
-"""An axis by document 01, with telegram 83 of document 02, apart from the Rattle code: whole numbers of any size, and the paper's own words for
+"""An axis by document 01, with No. 1 and 2 of document 02, apart from the Rattle code: whole numbers of any size, and the paper's own words for
 "modulo" and "rounded down" (Python's % and // are both rounded towards minus infinity).
 
     python3 model/axis.py            prints the calculated vectors, each call with its answer under it
     python3 model/axis.py --check    compares them with the last part of crates/vectors/stdout, and stdin with stdout without the answers
 
-The calls are drawn with a fixed seed, so that every run prints the same. The last section repeats cycles that stand in crates/vectors/stdout.
+The calls are drawn with fixed seeds, so that every run prints the same. The last section but one repeats cycles that stand in crates/vectors/stdout.
 """
 import itertools
 import os
@@ -25,13 +25,16 @@ def cut(a, b):
 
 
 class Link:
-    """The link record, all 0 at the start."""
+    """The link record, all 0 at the start. A preset is due in class 2 alone, and class 4 leaves `due` as it was (document 02, No. 2)."""
 
     def __init__(self):
-        self.faulty = self.bit = self.error = self.seen = self.executed = 0
+        self.bring(0, 0, 0, 0, 0)
+
+    def bring(self, faulty, bit, error, seen, executed, due=0):
+        self.faulty, self.bit, self.error, self.seen, self.executed, self.due = faulty, bit, error, seen, executed, due
 
     def shown(self):
-        return f"  link {self.faulty} {self.bit} {self.error} {self.seen} {self.executed}"
+        return f"  link {self.faulty} {self.bit} {self.error} {self.seen} {self.executed} {self.due}"
 
 
 class Axis:
@@ -201,10 +204,16 @@ class Axis:
         return self.cycle4(out) if self.class4 else self.cycle2(int.from_bytes(out, "big"))
 
     def cycle2(self, word):
+        """A rise of bit 31 makes a preset due, until it is made or the bit is 0 (document 02, No. 2)."""
         k, asks, v = self.link, word // 2**31, word % 2**31
-        if asks and not k.bit and self.on and not k.faulty and v < self.span:
-            self.set_preset(v, False)
+        if not asks:
+            k.due = 0
+        elif not k.bit:
+            k.due = 1
         k.bit = asks
+        if k.due and not k.faulty and v < self.span and self.on:
+            self.set_preset(v, False)
+            k.due = 0
         return self.position().to_bytes(4, "big")
 
     def cycle4(self, out):
@@ -397,7 +406,9 @@ class Script:
         return raw, out, given
 
     def exchange(self, a):
-        raw, out, given = self.brought(a, 12 if a.class4 else 4)
+        self.send(a, *self.brought(a, 12 if a.class4 else 4))
+
+    def send(self, a, raw, out, given):
         self.lines.append(" ".join(["exchange", str(len(given)), str(raw)] + [f"{o:02x}" for o in out]))
         self.calls += 1
         self.cycles += 1
@@ -464,17 +475,55 @@ class Script:
             if not a.acceptable():
                 self.given(a, [None])  # else the rest would be refused too
 
+    def third(self, a):
+        """A raw number near the last; about every third is past the sensor's end, or half its range away."""
+        if self.random.random() < 0.35:
+            return self.random.choice([a.c, a.c + 1, (a.last + a.c // 2) % a.c])
+        return (a.last + self.random.randint(-2, 2)) % a.c
+
+    def staying(self, a):
+        """The output of class 2: a bit 31 that is up mostly stays so while a preset is due, and the value lies around L, as far as 31 bits reach."""
+        up = self.random.random() < (0.85 if a.link.due else 0.5 if a.link.bit else 0.8)
+        anywhere = self.random.randrange(2**31)
+        v = self.random.choice([0, 1, a.span - 1, a.span, a.span + 1, 2**31 - 1, anywhere] + [anywhere % a.span] * 2)
+        return (up * 2**31 + min(v, 2**31 - 1)).to_bytes(4, "big")
+
+    def stay(self, a, cycles):
+        """Cycles of class 2 on one axis in which bit 31 stays up, now and then a link, a record or another call between them."""
+        self.begin(a)
+        for _ in range(cycles):
+            kind = self.random.random()
+            if kind < 0.08:
+                self.keep(a, 6)
+            elif kind < 0.13:
+                self.given(a)
+            elif kind < 0.21:
+                self.call(a)
+            size = 4 if self.random.random() < 0.95 else self.random.choice([3, 5, 12])
+            self.send(a, self.third(a), self.staying(a), b"\xee" * size)
+            if not a.acceptable():
+                self.given(a, [None])  # else the rest would be refused too
+
+    def carry(self, a, cycles):
+        """Cycles of class 4 by both telegrams on one axis, with links that are brought, some of them with a preset due."""
+        self.begin(a)
+        for n in range(cycles):
+            if n % 3 == 0:
+                self.hold(a)
+                self.keep(a, 6)
+            (self.exchange if self.random.random() < 0.5 else self.measure)(a)
+
     def hold(self, a):
         v = self.some_value(a)
         self.lines.append(f"hold     {v}")
         self.calls += 1
         self.lines += answer(a, lambda: a.hold(v))
 
-    def keep(self, a):
-        """A link that is brought."""
-        k = a.link
-        k.faulty, k.bit, k.error, k.seen, k.executed = (self.random.randrange(2) for _ in range(5))
-        self.lines.append(f"keep     {k.faulty} {k.bit} {k.error} {k.seen} {k.executed}")
+    def keep(self, a, figures=5):
+        """A link that is brought: no preset is due in one of five figures."""
+        link = [self.random.randrange(2) for _ in range(figures)]
+        a.link.bring(*link)
+        self.lines.append(" ".join(["keep    "] + [str(n) for n in link]))
 
     def given(self, a, pasts=(None, None, None, "place", "last", "offset", "preset", "held")):
         """A record that is brought: within its limits, or past one of them."""
@@ -562,8 +611,7 @@ def answer_to(a, line):
         a.place, a.last, a.offset, a.preset, a.held = numbers
         return []
     if kind == "keep":
-        k = a.link
-        k.faulty, k.bit, k.error, k.seen, k.executed = numbers
+        a.link.bring(*numbers)
         return []
     if kind == "list":
         out = [7] * numbers[0]
@@ -617,6 +665,8 @@ def vectors(by_hand):
     script.random = random.Random(83)
     talks83(script, random.Random(3))
     repeated(script, standing)
+    script.random = random.Random(132)
+    stays(script, random.Random(4))
     return script
 
 
@@ -637,6 +687,17 @@ def talks83(script, rng):
         script.talk83(a, 12)
     for _ in range(2):
         script.talk83(of_class(rng, small, False), 4)
+
+
+def stays(script, rng):
+    script.lines.append(CALCULATED + "bit 31 that stays up, small sensors and the largest; then a preset that is due, brought to class 4")
+    for n in range(16):
+        a = of_class(rng, large if n % 4 == 3 else small, False)
+        if n % 8 == 4:
+            a.octet &= ~2  # the class off
+        script.stay(a, 11)
+    for n in range(5):
+        script.carry(of_class(rng, large if n == 4 else small, True), 8)
 
 
 def of_class(rng, draw, class4):

@@ -1,5 +1,5 @@
 //! One axis record and its link over many calls: start, readings, presets, passes, velocity and the cycles of
-//! document 01, and telegram 83 of document 02, No. 1.
+//! document 01, telegram 83 of document 02, No. 1, and the preset that stays due of document 02, No. 2.
 
 use crate::model::{self, bit, number, refuse_if, Axis, Parameters, Plate};
 
@@ -13,7 +13,7 @@ pub struct Numbers {
     pub held: i128,
 }
 
-/// The link record. `counted` is bit 31 or bit 12 as last counted.
+/// The link record. `counted` is bit 31 or bit 12 as last counted; `due` is a preset of bit 31 not made yet.
 #[derive(Clone, Copy, Debug, Default)]
 pub struct Link {
     pub faulty: bool,
@@ -21,6 +21,7 @@ pub struct Link {
     pub error: bool,
     pub acknowledge: bool,
     pub executed: bool,
+    pub due: bool,
 }
 
 /// An axis with its link, from call to call. There are no numbers before the start.
@@ -212,14 +213,17 @@ impl Link {
         let output = number(output, 1, 4);
         let value = i128::from(output & 0x7FFF_FFFF);
         let rise = bit(output, 31) && !self.counted;
-        if rise && parameters.class_on() && !self.faulty && value < started.axis.l {
+        let due = rise || self.due && bit(output, 31);
+        let made = due && parameters.class_on() && !self.faulty && value < started.axis.l;
+        if made {
             started.preset(value, false);
         }
+        self.due = due && !made; // with the class off too, since only the making asks for it
         self.counted = bit(output, 31);
         started.position().to_be_bytes().to_vec()
     }
 
-    /// Telegram 81.
+    /// Telegram 81. `due` stays as it is: only bit 31 has to do with it.
     fn class_four(&mut self, started: &mut Started, parameters: &Parameters, output: &[u8]) -> Vec<u8> {
         let control = if bit(number(output, 1, 2), 10) { number(output, 3, 4) } else { 0 };
         self.hold_error(bit(control, 15), bit(control, 14));

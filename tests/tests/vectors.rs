@@ -1,4 +1,4 @@
-//! The stored vectors of crates/vectors, and a few for telegram 83 worked out by hand, against the model.
+//! The stored vectors of crates/vectors, and a few for telegram 83 and bit 31 worked out by hand, against the model.
 
 use encoder_tests::cycle::{Device, Link, Numbers};
 use encoder_tests::model::{Parameters, Plate};
@@ -8,7 +8,7 @@ use std::path::Path;
 use std::str::FromStr;
 
 /// Calls, by class and kind, that must be in the stored vectors at least: the test cannot pass emptily.
-const LEAST: [(&str, usize); 4] = [("4 exchange", 186), ("4 measured", 389), ("2 exchange", 259), ("2 measured", 14)];
+const LEAST: [(&str, usize); 4] = [("4 exchange", 211), ("4 measured", 413), ("2 exchange", 512), ("2 measured", 14)];
 
 /// Lines that leave the axis as it is and whose answers are not calculated here.
 const PASSED_OVER: [&str; 5] = ["telegram", "block", "write", "serial", "diagnose"];
@@ -37,9 +37,11 @@ fn numbers(words: &[&str]) -> Numbers {
     Numbers { place, last: decimal(words[1]), offset, preset, held }
 }
 
+/// The figures behind `keep`. The sixth may be missing: then no preset is due.
 fn link(words: &[&str]) -> Link {
-    let [faulty, counted, error, acknowledge, executed] = [0, 1, 2, 3, 4].map(|at| words[at] == "1");
-    Link { faulty, counted, error, acknowledge, executed }
+    assert!([5, 6].contains(&words.len()), "figures of a link");
+    let [faulty, counted, error, acknowledge, executed, due] = [0, 1, 2, 3, 4, 5].map(|at| words.get(at) == Some(&"1"));
+    Link { faulty, counted, error, acknowledge, executed, due }
 }
 
 /// The axis as a call has left it, or the refusal.
@@ -79,8 +81,8 @@ fn cycle(device: &mut Device, measured: bool, words: &[&str]) -> Vec<String> {
     } else {
         device.exchange(raw, &octets(2), &mut input)
     };
-    let Link { faulty, counted, error, acknowledge, executed } = device.link;
-    let kept = [faulty, counted, error, acknowledge, executed];
+    let Link { faulty, counted, error, acknowledge, executed, due } = device.link;
+    let kept = [faulty, counted, error, acknowledge, executed, due];
     vec![
         axis_line(device, answer),
         list_line("  link", &kept, |state| format!(" {}", u8::from(*state))),
@@ -158,4 +160,12 @@ fn stored_answers() {
 fn telegram_83_by_hand() {
     let counts = replay(include_str!("telegram83.txt"));
     assert_eq!((counts["4 measured"], counts["2 measured"]), (11, 2));
+}
+
+#[test]
+fn bit_31_by_hand() {
+    let counts = replay(include_str!("bit31.txt"));
+    assert_eq!((counts["2 exchange"], counts["4 exchange"]), (46, 3));
+    assert_eq!((counts["2 measured"], counts["4 measured"]), (1, 3));
+    assert_eq!((counts["2 keep"], counts["4 keep"]), (9, 3));
 }

@@ -5,10 +5,10 @@ use Rattle.encoder.specs.{answer}
 use Rattle.axis_shaft.specs.{moveRefusal, movedTo}
 use Rattle.axis.specs.{rulesOn, positionOf, atRaw, presetted}
 use Rattle.axis.proofs.{Limits, singly, reported-is, raw-kept}
-use Rattle.cyclic_link.specs.{Preset as Reacted, Class2.asked as asked2, Class2.made as made2, Class4.asked as asked4, held, Class4.made as made4, Classes.reaction}
+use Rattle.cyclic_link.specs.{Preset as Reacted, Class2.due, Class2.made as made2, Class2.link as link2, Class4.asked as asked4, held, Class4.made as made4, Class4.link as link4, Classes.reaction}
 use Rattle.cyclic.specs.{faultyAt, takenAt, wordOf, counted, class4, wordBy, linkAfter}
 use Rattle.cyclic.proofs.{after-is}
-use Rattle.accuracy.specs.{none, made, Deed, rises, preset2, preset4, cyclePreset, withReadings, put, Supposed, Rule6, readSingly, State}
+use Rattle.accuracy.specs.{Ledger.Preset, none, made, Deed, due2, rises, preset2, preset4, cyclePreset, unmade, dueAfter, withDue, exchangedBy, withReadings, put, Supposed, Rule6, readSingly, State}
 use Rattle.accuracy.proofs.{Standing.deviceOf, Standing.ledgerOf, Standing.Keeps, Standing.Matches, Standing.onward, Standing.stands-moved, Standing.Done}
 use Rattle.accuracy.proofs.{Presets.puts-by, Presets.stands-preset, Settled.left}
 use mathlib.{Core.Bool.and-false}
@@ -24,12 +24,30 @@ module _ (s : State) (output : List ℕ) where
   unfolding made2 made4 rulesOn
   same p g true =
       rw (and-true (rises (deviceOf (s .axis)) (ledgerOf s p g) (asked4 (counted output)) && not (held (s .link) false (counted output))))
-  same p g false = rw (and-true (rises (deviceOf (s .axis)) (ledgerOf s p g) (asked2 (wordOf output))))
+  same p g false = rw (and-true (due2 (ledgerOf s p g) (wordOf output) && rulesOn (s .axis) .enabled))
 
   passed : (class : Bool) → reacts s output true class .made ≡ false
   unfolding made2 made4
   passed true = and-false (not (s .link .requested) && asked4 (counted output) && rulesOn (s .axis) .enabled && not (held (s .link) true (counted output)))
-  passed false = rw (and-false (not (s .link .requested) && asked2 (wordOf output) && rulesOn (s .axis) .enabled))
+  passed false = rw (and-false (due (s .link) (wordOf output) && rulesOn (s .axis) .enabled))
+
+  -- and what is due after it: the link's rule is the ledger's
+  due-by : (p : ℕ) (g : ℤ) (faulty : Bool) (o : Preset) (class : Bool) → unmade o ≡ not (reacts s output faulty class .made)
+      → let j = cond class (link4 (rulesOn (s .axis)) (s .link) faulty (counted output)) (link2 (rulesOn (s .axis)) (s .link) faulty (wordOf output)) in
+      withDue j (cond class (s .link .due) (due2 (ledgerOf s p g) (wordOf output) && unmade o)) ≡ j
+  unfolding link2 link4
+  due-by p g faulty o true e = refl
+  due-by p g faulty o false e = rw e
+
+  link-is : (p : ℕ) (g : ℤ) (faulty : Bool) (o : Preset) → unmade o ≡ not (reacts s output faulty (class4 (s .axis .parameters)) .made)
+      → let j = linkAfter (rulesOn (s .axis)) (s .axis .parameters) (s .link) faulty output in
+      withDue j (dueAfter (deviceOf (s .axis)) (ledgerOf s p g) output o) ≡ j
+  unfolding linkAfter
+  link-is p g faulty o e = due-by p g faulty o (class4 (s .axis .parameters)) e
+
+unmade-by : (t : Bool) (v : ℤ) (relative : Bool) → unmade (cond t (made v relative) none) ≡ not t
+unmade-by true v relative = refl
+unmade-by false v relative = refl
 
 -- ---- the preset of a cycle, by whether it is made
 preset-by : (s : State) (p : ℕ) (g : ℤ) → Limits (s .axis) → Keeps s p g → (v : ℤ) (relative t : Bool) → let b = cond t (presetted (s .axis) v relative) (s .axis) in
@@ -41,13 +59,7 @@ preset-by s p g lim k v relative false = (record { device = refl; ledger = refl;
 -- ---- the cycle, by the number by which its raw number would be refused
 module _ (s : State) (p : ℕ) (g : ℤ) (lim : Limits (s .axis)) (k : Keeps s p g) (raw : ℕ) (output : List ℕ) (m : ℕ → ℤ) where
   abbrev deedBy : ℕ → Deed
-  deedBy n =
-      record {
-        numbers = answer (λ (i : ℕ). []) (raw ∷ []) n;
-        preset = answer (λ (i : ℕ). none) (cyclePreset (deviceOf (s .axis)) (ledgerOf s p g) output) n;
-        stored = s .axis .stored;
-        link = linkAfter (rulesOn (s .axis)) (s .axis .parameters) (s .link) (not (eqb n 0)) output;
-      }
+  deedBy n = exchangedBy (deviceOf (s .axis)) (ledgerOf s p g) raw output n
 
   pub cycle-by : (n : ℕ) → moveRefusal (rulesOn (s .axis)) (s .axis .shaft .last .0) raw ≡ n
       → Supposed (deviceOf (s .axis)) (s .axis .shaft .last .0) (deedBy n .numbers) m → Done s (ledgerOf s p g) m (deedBy n) (left s raw output)
@@ -61,10 +73,13 @@ module _ (s : State) (p : ℕ) (g : ℤ) (lim : Limits (s .axis)) (k : Keeps s p
       let o = reacts s output false class in
       let b-kept = stands-moved (record { axis = a; link = j }) p g lim k raw m (h .0) .kept in
       let x = preset-by (record { axis = atRaw a raw; link = j }) p (g +ℤ m 0) b-limits b-kept (o .value) (o .relative) (o .made) in
-      rw (after-is a (s .link) raw output, takenAt, faultyAt, t, same s output p g class)
+      let put-is = cyclePreset (deviceOf a) (ledgerOf s p g) output in
+      let made-is : unmade put-is ≡ not (o .made) = rw (same s output p g class) (unmade-by (o .made) (o .value) (o .relative)) in
+      rw (after-is a (s .link) raw output, takenAt, faultyAt, t, link-is s output p g false put-is made-is, same s output p g class)
       (record { stands = x .0; puts = rw (t, reported-is (atRaw a raw) b-limits) (x .1) })
   cycle-by (suc n) e h =
       let a = s .axis in
       let t = singly a lim raw (suc n) e in
-      rw (after-is a (s .link) raw output, takenAt, faultyAt, t, ne-eqb (suc n) 0 (λ z. omega arith), passed s output (class4 (a .parameters)))
+      let none-made = passed s output (class4 (a .parameters)) in
+      rw (after-is a (s .link) raw output, takenAt, faultyAt, t, ne-eqb (suc n) 0 (λ z. omega arith), link-is s output p g true none (rw none-made), none-made)
       (record { stands = record { device = refl; ledger = refl; kept = k }; puts = tt })

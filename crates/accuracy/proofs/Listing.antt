@@ -49,7 +49,8 @@ module _ (p : Program) (claim : Claim p) (c : Call) (m : ℤ) (h : Supposed list
   lent = claim listing there started-there (event c m ∷ []) .1 h .1
 
   pub another : (e : Call) (n : ℤ) → Supposed listing (later p c m .last) (deed listing (later p c m) e .numbers) (steady n)
-      → Lent listing (later p c m) e (steady n) (noted (later p c m) (deed listing (later p c m) e) (steady n) (number (twice p c e))) (p .lent (p .call (begun p) c) e)
+      → Rule6 listing (deed listing (later p c m) e .preset) (number (p .position (readSingly p (p .call (begun p) c) (deed listing (later p c m) e .numbers)))) (number (twice p c e))
+      × Lent listing (later p c m) e (steady n) (noted (later p c m) (deed listing (later p c m) e) (steady n) (number (twice p c e))) (p .lent (p .call (begun p) c) e)
       × Reports listing (noted (later p c m) (deed listing (later p c m) e) (steady n) (number (twice p c e))) (twice p c e)
   unfolding Accurate
-  another e n k = let t = claim listing there started-there (event c m ∷ event e n ∷ []) .1 h .2 .1 k in (t .1, t .2)
+  another e n k = let t = claim listing there started-there (event c m ∷ event e n ∷ []) .1 h .2 .1 k in (t .0, t .1, t .2)

@@ -16,7 +16,7 @@ use Rattle.cyclic_link.specs.{Class2.made, Class2.link}
 use Rattle.cyclic.specs.{faultyAt, takenAt, Class2.axis, Class2.input, lengthRefusal, cycleRefusal, linkAfter, axisAfter, inputOf, cycle, cycleInput}
 use Rattle.accuracy.specs.{Call, rawReading, batching, presetting, cycling, force, deed, withReadings, Program, Supposed, off, Entries, readSingly, Accurate}
 use Rattle.accuracy.specs.{Claim.Claim, library, at, always0, turnsAway, claimsHalfRange, ignoresReadings, ignoresPresets, copiesFirst, scalesAfresh, wrapsAtC}
-use Rattle.accuracy.specs.{cutsPlace, addsRounded, alwaysAbsolute, presetsWhenFaulty, forgetsLink, showsFresh, listing}
+use Rattle.accuracy.specs.{cutsPlace, addsRounded, alwaysAbsolute, presetsWhenFaulty, forgetsLink, forgetsDue, showsFresh, listing}
 use Rattle.accuracy.proofs.OneUnit.{told}
 use Rattle.accuracy.proofs.Listing.{first, there, started-there, begun, then, twice, steady, later, after, puts, lent, another}
 
@@ -44,10 +44,11 @@ reports : (then turnsAway (rawReading 4) ≡ at 1 1)
     × (twice forgetsLink (asks 28 0) (asks 28 3) ≡ at 3 1)
     × (then showsFresh (asks 28 0) ≡ at 0 1)
     × (showsFresh .lent (showsFresh .call (begun showsFresh) (asks 28 0)) (asks 28 3) ≡ 0 ∷ 0 ∷ 0 ∷ 3 ∷ [])
+    × (twice forgetsDue (asks 28 7) (asks 28 0) ≡ at 1 1)
     × (copiesFirst .lent (begun copiesFirst) pass ≡ 3 ∷ 3 ∷ [])
     × (then library (rawReading 3) ≡ at 2 2)
 unfolding _modulo_ inRange bigEndian fieldsRefusal refusalOn plateRefusal rulesOf rulesFit inside oriented started difference shorter moveOf moveRefusal movedTo unshifted positionAt shaftRefusal rulesOn acceptable axisRefusal unshiftedOf positionOf reported startRefusal start stepRefusal atRaw readRawRefusal readRaw valueRefusal presetRefusal asked presetted preset faultyAt takenAt made axis lengthRefusal cycleRefusal axisAfter inputOf cycle cycleInput linkAfter link input octets firstRefusal positionsOf batchRefusal batchList
-reports = (refl, refl, refl, refl, refl, refl, refl, refl, refl, refl, refl, refl, refl, refl, refl, refl, refl)
+reports = (refl, refl, refl, refl, refl, refl, refl, refl, refl, refl, refl, refl, refl, refl, refl, refl, refl, refl)
 
 -- the true steps are as supposed
 read-4 : Supposed listing 28 (deed listing first (rawReading 4) .numbers) (steady (pos 6))
@@ -111,15 +112,15 @@ no-presetsWhenFaulty h =
     let t = told listing (later presetsWhenFaulty (asks 30 0) (pos 0)) 0 (rw (reports .10) at (after presetsWhenFaulty h (asks 30 0) (pos 0) tt)) in
     omega arith
 
--- ---- a preset to 0 is made by a rise, and none by the bit that stays up: exact is still 0
-stands-still : Supposed listing 28 (deed listing first (asks 28 0) .numbers) (steady (pos 0))
+-- ---- a preset to 0 is made by a rise, and no other while the bit stays up: exact is still 0
+stands-still : (v : ℕ) → Supposed listing 28 (deed listing first (asks 28 v) .numbers) (steady (pos 0))
 unfolding Supposed lengthRefusal moveRefusal difference oriented _modulo_ rulesOf
-stands-still = (record { small = omega arith; times = pos 0; same = refl }, tt)
+stands-still v = (record { small = omega arith; times = pos 0; same = refl }, tt)
 
 no-second : (p : Program) (u v : ℕ) → Claim p → then p (asks 28 0) ≡ at 0 u → twice p (asks 28 0) (asks 28 3) ≡ at 3 v → ⊥
 unfolding Supposed withReadings lengthRefusal bigEndian moveRefusal difference oriented _modulo_ rulesOf linkAfter link
 no-second p u v h e f =
-    let t = another p h (asks 28 0) (pos 0) stands-still (asks 28 3) (pos 0) stands-still .1 in
+    let t = another p h (asks 28 0) (pos 0) (stands-still 0) (asks 28 3) (pos 0) (stands-still 3) .2 in
     let a = told listing _ 3 (rw (e, f) at t) in
     omega arith
 
@@ -129,12 +130,20 @@ no-forgetsLink h = no-second forgetsLink 1 1 h (reports .11) (reports .12)
 no-input : (p : Program) (u : ℕ) → Claim p → then p (asks 28 0) ≡ at 0 u → p .lent (p .call (begun p) (asks 28 0)) (asks 28 3) ≡ 0 ∷ 0 ∷ 0 ∷ 3 ∷ [] → ⊥
 unfolding Supposed withReadings lengthRefusal bigEndian moveRefusal difference oriented _modulo_ rulesOf linkAfter link
 no-input p u h e f =
-    let t = another p h (asks 28 0) (pos 0) stands-still (asks 28 3) (pos 0) stands-still .0 in
+    let t = another p h (asks 28 0) (pos 0) (stands-still 0) (asks 28 3) (pos 0) (stands-still 3) .1 in
     let a = told listing _ 3 ((rw (e, f) at t) refl .class2 refl) in
     omega arith
 
 pub no-showsFresh : Claim showsFresh → ⊥
 no-showsFresh h = no-input showsFresh 1 h (reports .13) (reports .14)
+
+-- ---- a rise with a value of L, and 0 with the bit still up: the preset is made then (request 2)
+put-late : (p : Program) (x u : ℕ) → Claim p → twice p (asks 28 7) (asks 28 0) ≡ at x u → x ≡ 0
+unfolding Supposed withReadings lengthRefusal bigEndian moveRefusal difference oriented _modulo_ rulesOf linkAfter link
+put-late p x u h e = rw e at (another p h (asks 28 7) (pos 0) (stands-still 7) (asks 28 0) (pos 0) (stands-still 0) .0)
+
+pub no-forgetsDue : Claim forgetsDue → ⊥
+no-forgetsDue h = omega (arith, put-late forgetsDue 1 1 h (reports .15))
 
 -- ---- the second entry of the batch: exact is 12, which on the ring of 7 is 5
 second : (p : Program) → Claim p → p .lent (begun p) pass ≡ 3 ∷ 3 ∷ [] → ⊥
@@ -142,14 +151,14 @@ unfolding Entries withReadings refusalIn moveRefusal difference oriented _modulo
 second p h e = let t = told listing _ 3 ((rw e at (lent p h pass (pos 6) read-pass)) .1 .0) in omega arith
 
 pub no-copiesFirst : Claim copiesFirst → ⊥
-no-copiesFirst h = second copiesFirst h (reports .15)
+no-copiesFirst h = second copiesFirst h (reports .16)
 
 -- ---- half a unit would be too much to claim: after raw number 3, 5 steps on, exact is 9.9, on the ring 2.9, and the library reports 2
 pub no-half : (then library (rawReading 3) ≡ at 2 2)
     × ((w : ℤ) → 2 * natAbs (off listing (later library (rawReading 3) (pos 5)) 2 w) < force listing .steps .0 → ⊥)
 unfolding rulesOf withReadings moveRefusal difference oriented _modulo_
 no-half = (
-  reports .16,
+  reports .17,
   λ w h.
       let z = off listing (later library (rawReading 3) (pos 5)) 2 w in
       omega (arith, off-is 10 3 7 2 (pos 0) (pos 33) w, abs-is z, apart z, h),

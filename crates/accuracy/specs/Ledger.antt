@@ -1,7 +1,7 @@
 -- The ledger (document 01, "The distance rule", its second paragraph). It is fed the arguments of the calls, the true steps m beside each
 -- accepted raw number, and one answer, the position just after a preset. By the table of refusals and the rules it settles what is accepted and whether a
 -- preset is made: it keeps the last accepted raw number, the held preset value and the link state itself, and never looks at an axis record.
-use Rattle.integer.specs.Base.{Bool, false, cond, not, _&&_, List, [], _∷_, ℕ, suc, eqb, ltb, ℤ, pos, _+ℤ_, length}
+use Rattle.integer.specs.Base.{Bool, true, false, cond, not, _&&_, _||_, List, [], _∷_, ℕ, suc, eqb, ltb, ℤ, pos, _+ℤ_, length}
 use Rattle.encoder.specs.{Nameplate, Parameters, InForce, wrongBuffer, when, _before_, answer, fieldsOf, rulesOf}
 use Rattle.sensor.specs.{rawOf, stepRefusal}
 use Rattle.axis_shaft.specs.{oriented, moveRefusal, refusalIn}
@@ -71,13 +71,18 @@ pub record Deed : Type 0 where
 abbrev pub moves : Ledger → List ℕ → Deed
 moves l raws = record { numbers = raws; preset = none; stored = l .stored; link = l .link }
 
--- a cycle that is not faulty makes a preset on a rise of its bit with the class on: class 2 of a value below L, class 4 of the held preset value
--- while no error is held
-abbrev pub rises : Device → Ledger → Bool → Bool
-rises d l bit = not (l .link .requested) && bit && force d .enabled
+-- a cycle that is not faulty makes a preset with the class on. In class 2 (request 2) one is due when bit 31 rises, 1 now and 0 as last counted, or was
+-- due and the bit is still 1; it is made of a value below L
+abbrev pub due2 : Ledger → ℕ → Bool
+due2 l word = Class2.asked word && (not (l .link .requested) || l .link .due)
 
 abbrev pub preset2 : Device → Ledger → ℕ → Preset
-preset2 d l word = cond (rises d l (Class2.asked word) && ltb (Class2.value word) (force d .span .0)) (made (pos (Class2.value word)) false) none
+preset2 d l word =
+    cond (due2 l word && force d .enabled && ltb (Class2.value word) (force d .span .0)) (made (pos (Class2.value word)) false) none
+
+-- in class 4 of the held preset value, on a rise of bit 12 while no error is held
+abbrev pub rises : Device → Ledger → Bool → Bool
+rises d l bit = not (l .link .requested) && bit && force d .enabled
 
 abbrev pub preset4 : Device → Ledger → ℕ → Preset
 preset4 d l word = cond (rises d l (Class4.asked word) && not (Class4.held (l .link) false word)) (made (l .stored) (Class4.relative word)) none
@@ -85,16 +90,32 @@ preset4 d l word = cond (rises d l (Class4.asked word) && not (Class4.held (l .l
 abbrev pub cyclePreset : Device → Ledger → List ℕ → Preset
 cyclePreset d l output = cond (class4 (d .parameters)) (preset4 d l (counted output)) (preset2 d l (wordOf output))
 
--- a cycle, of telegram 83 as of telegram 81 and of class 2
-abbrev pub exchanges : Device → Ledger → ℕ → List ℕ → Deed
-exchanges d l raw output =
-    let refusal = moveRefusal (force d) (l .last) raw in
+-- the preset is due no more once made or once the bit is 0; class 4 leaves it as it was. The ledger says this itself, since it decides which presets are
+-- made; the rest of the link goes by the rules of the cycle
+abbrev pub unmade : Preset → Bool
+unmade none = true
+unmade (made v relative) = false
+
+abbrev pub dueAfter : Device → Ledger → List ℕ → Preset → Bool
+dueAfter d l output o = cond (class4 (d .parameters)) (l .link .due) (due2 l (wordOf output) && unmade o)
+
+abbrev pub withDue : Link → Bool → Link
+withDue k due =
+    record { faulty = k .faulty; requested = k .requested; error = k .error; acknowledged = k .acknowledged; executed = k .executed; due = due }
+
+-- a cycle, of telegram 83 as of telegram 81 and of class 2, by the number that would refuse its raw number: a faulty one accepts none and makes no preset
+abbrev pub exchangedBy : Device → Ledger → ℕ → List ℕ → ℕ → Deed
+exchangedBy d l raw output refusal =
+    let o = answer (λ _. none) (cyclePreset d l output) refusal in
     record {
       numbers = answer (λ _. []) (raw ∷ []) refusal;
-      preset = answer (λ _. none) (cyclePreset d l output) refusal;
+      preset = o;
       stored = l .stored;
-      link = linkAfter (force d) (d .parameters) (l .link) (not (eqb refusal 0)) output;
+      link = withDue (linkAfter (force d) (d .parameters) (l .link) (not (eqb refusal 0)) output) (dueAfter d l output o);
     }
+
+abbrev pub exchanges : Device → Ledger → ℕ → List ℕ → Deed
+exchanges d l raw output = exchangedBy d l raw output (moveRefusal (force d) (l .last) raw)
 
 abbrev pub does : Device → Ledger → Call → Deed
 does d l (reading step turn) = moves l (rawOf (d .plate) step turn ∷ [])

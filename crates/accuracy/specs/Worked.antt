@@ -58,18 +58,25 @@ run2 =
     ∷ line (storing (pos 5)) [] 1 0 (pos 4) []
     ∷ line (presetting (pos 7) true) [] 1 0 (pos 4) []
     ∷ line (presetting (negsuc 1) true) [] 6 6 (pos 0) []
-    -- cycles: a preset by a rise, and passed over while the bit stays up
+    -- cycles: a preset by a rise, and no other while the bit stays up
     ∷ line (cycling 9 (o 0x80 0 0 5) (o 0 0 0 0)) (pos 1 ∷ []) 5 5 (pos 0) (o 0 0 0 5)
     ∷ line (cycling 10 (o 0x80 0 0 3) (o 0 0 0 0)) (pos 1 ∷ []) 6 5 (pos 1) (o 0 0 0 6)
-    -- faulty, faulty with a rise, and that bit still up; a rise with value L; input octets too few (13)
+    -- faulty; the operator's correction (request 2): a rise with value L, a move with a value past it, a faulty cycle, and then the value 2; the bit
+    -- still up; the bit at 0
     ∷ line (cycling 30 (o 0 0 0 0) (o 0 0 0 0)) [] 6 5 (pos 1) (o 0 0 0 6)
-    ∷ line (cycling 30 (o 0x80 0 0 2) (o 0 0 0 0)) [] 6 5 (pos 1) (o 0 0 0 6)
-    ∷ line (cycling 10 (o 0x80 0 0 2) (o 0 0 0 0)) (pos 0 ∷ []) 6 5 (pos 1) (o 0 0 0 6)
-    ∷ line (cycling 10 (o 0 0 0 2) (o 0 0 0 0)) (pos 0 ∷ []) 6 5 (pos 1) (o 0 0 0 6)
     ∷ line (cycling 10 (o 0x80 0 0 7) (o 0 0 0 0)) (pos 0 ∷ []) 6 5 (pos 1) (o 0 0 0 6)
-    ∷ line (cycling 11 (o 0 0 0 0) (1 ∷ 2 ∷ 3 ∷ [])) [] 6 5 (pos 1) (1 ∷ 2 ∷ 3 ∷ [])
+    ∷ line (cycling 13 (o 0x80 0 0 20) (o 0 0 0 0)) (pos 3 ∷ []) 6 5 (pos 4) (o 0 0 0 6)
+    ∷ line (cycling 30 (o 0x80 0 0 2) (o 0 0 0 0)) [] 6 5 (pos 4) (o 0 0 0 6)
+    ∷ line (cycling 14 (o 0x80 0 0 2) (o 0 0 0 0)) (pos 1 ∷ []) 2 2 (pos 0) (o 0 0 0 2)
+    ∷ line (cycling 14 (o 0x80 0 0 3) (o 0 0 0 0)) (pos 0 ∷ []) 2 2 (pos 0) (o 0 0 0 2)
+    ∷ line (cycling 14 (o 0 0 0 3) (o 0 0 0 0)) (pos 0 ∷ []) 2 2 (pos 0) (o 0 0 0 2)
+    -- a rise in a faulty cycle; a relative preset by a call; input octets too few (13); the bit at 0 before it could be made
+    ∷ line (cycling 30 (o 0x80 0 0 4) (o 0 0 0 0)) [] 2 2 (pos 0) (o 0 0 0 2)
+    ∷ line (presetting (pos 3) true) [] 5 5 (pos 0) []
+    ∷ line (cycling 14 (o 0x80 0 0 4) (1 ∷ 2 ∷ 3 ∷ [])) [] 5 5 (pos 0) (1 ∷ 2 ∷ 3 ∷ [])
+    ∷ line (cycling 14 (o 0 0 0 4) (o 0 0 0 0)) (pos 0 ∷ []) 5 5 (pos 0) (o 0 0 0 5)
     -- telegram 83 is none of class 2 (13)
-    ∷ line (measuring 11 1 (o 0 0 0 0) (o16 1 2 3 4 (o 5 6 7 8))) [] 6 5 (pos 1) (o16 1 2 3 4 (o 5 6 7 8))
+    ∷ line (measuring 11 1 (o 0 0 0 0) (o16 1 2 3 4 (o 5 6 7 8))) [] 5 5 (pos 0) (o16 1 2 3 4 (o 5 6 7 8))
     ∷ []
 
 -- started at step 2 of turn 0: raw number 2, oriented number 28, position 1

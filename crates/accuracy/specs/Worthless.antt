@@ -4,9 +4,9 @@ use Rattle.integer.specs.Base.{Bool, false, cond, List, _++_, ℕ, _*_, _/_, _%
 use Rattle.integer.specs.{_modulo_}
 use Rattle.axis_shaft.specs.{oriented, moveOf, Reported, At}
 use Rattle.axis.specs.{Axis, rulesOn, unshiftedOf, positionOf, reported, withShaft}
-use Rattle.cyclic_link.specs.{quiet}
+use Rattle.cyclic_link.specs.{Link, quiet}
 use Rattle.cyclic.specs.{faultyAt}
-use Rattle.accuracy.specs.{Calls.Call, Calls.reading, Calls.rawReading, Calls.batching, Calls.presetting, Calls.storing, Calls.cycling, Calls.measuring, Claim.Program}
+use Rattle.accuracy.specs.{Calls.Call, Calls.reading, Calls.rawReading, Calls.batching, Calls.presetting, Calls.storing, Calls.cycling, Calls.measuring, Ledger.withDue, Claim.Program}
 use Rattle.accuracy.specs.{Run.State, Run.begin, Run.yields, Run.lentBy}
 
 -- ---- another answer for the position
@@ -90,16 +90,25 @@ abbrev pub presetsWhenFaulty : Program
 presetsWhenFaulty =
     takes (λ a c. instead (λ raws. raws) (λ relative. relative) (λ raw. cond (faultyAt a raw) (a .shaft .last .0) raw) c)
 
--- ---- another link: none goes from cycle to cycle, or the input octets are those of a cycle with a fresh one
-abbrev pub fresh : State → State
-fresh s = record { axis = s .axis; link = quiet }
+-- ---- another link after each call
+abbrev pub links : (Link → Link) → State → State
+links f s = record { axis = s .axis; link = f (s .link) }
 
+abbrev pub keeps : (Link → Link) → Program
+keeps f = record { State = State; start = begin; call = λ s c. links f (yields s c); position = λ s. reported (s .axis); lent = lentBy }
+
+-- no link goes from cycle to cycle
 abbrev pub forgetsLink : Program
-forgetsLink =
-    record { State = State; start = begin; call = λ s c. fresh (yields s c); position = λ s. reported (s .axis); lent = lentBy }
+forgetsLink = keeps (λ k. quiet)
 
+-- makes a preset in the cycle of the rise or never, as before request 2
+abbrev pub forgetsDue : Program
+forgetsDue = keeps (λ k. withDue k false)
+
+-- the input octets are those of a cycle with a fresh link
 abbrev pub showsFresh : Program
-showsFresh = record { State = State; start = begin; call = yields; position = λ s. reported (s .axis); lent = λ s c. lentBy (fresh s) c }
+showsFresh =
+    record { State = State; start = begin; call = yields; position = λ s. reported (s .axis); lent = λ s c. lentBy (links (λ k. quiet) s) c }
 
 -- ---- the sixteen octets of telegram 83 in another order: NIST_B in front of the twelve
 abbrev pub shifted : List ℕ → List ℕ

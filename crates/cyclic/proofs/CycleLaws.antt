@@ -40,7 +40,7 @@ pub word-two : (class : Bool) (output : List ℕ) (w : ℕ) → class ≡ false 
 word-two class output w t w-is os long = rw t (w-is ∙ N.mod-eq-of-lt (rw long at (bigEndian-lt output os)))
 
 link-by : (class : Bool) (f : InForce) (k : Link) (faulty : Bool) (output : List ℕ) (stored : ℤ)
-    → reaction class f k faulty (wordBy class output) stored .link ≡ cond class (Link4.link f k faulty (Class4.counted output)) (Link2.link k faulty (Class2.wordOf output))
+    → reaction class f k faulty (wordBy class output) stored .link ≡ cond class (Link4.link f k faulty (Class4.counted output)) (Link2.link f k faulty (Class2.wordOf output))
 link-by true f k faulty output stored = refl
 link-by false f k faulty output stored = refl
 

@@ -34,7 +34,7 @@ inputBy class k word a = cond class (Class4.input k word a) (Class2.input a)
 
 -- the link that a cycle leaves, by what is in force
 unfoldable pub linkAfter : InForce → Parameters → Link → Bool → List ℕ → Link
-linkAfter f p k faulty output = cond (class4 p) (Link4.link f k faulty (Class4.counted output)) (Link2.link k faulty (Class2.wordOf output))
+linkAfter f p k faulty output = cond (class4 p) (Link4.link f k faulty (Class4.counted output)) (Link2.link f k faulty (Class2.wordOf output))
 
 -- the axis that it leaves: the raw number first, and then the preset, if one is made
 unfoldable pub axisAfter : Axis → Link → ℕ → List ℕ → Axis

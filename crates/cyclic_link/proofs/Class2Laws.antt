@@ -1,10 +1,10 @@
 -- Class 2: the next link and the preset. The value is a mask of 31 bits, which is a remainder.
 pub use borrow.Author.Needs.{needs}
-use Rattle.integer.specs.Base.{_≡_, Bool, true, false, not, _&&_, ℕ, _^_, _<_, arith, ltb, bitAnd, and-mask, ltb-true, w64, toZ, toZ-pos}
+use Rattle.integer.specs.Base.{_≡_, Bool, true, false, not, _&&_, _||_, ℕ, _^_, _<_, arith, ltb, bitAnd, and-mask, ltb-true, w64, toZ, toZ-pos}
 use Rattle.integer.specs.{bit}
 use Rattle.encoder.specs.{InForce}
 use Rattle.encoder.proofs.{and-split}
-use Rattle.cyclic_link.specs.{Link, Reaction, Class2.asked, value, Class2.made, Class2.link, Class2.reaction}
+use Rattle.cyclic_link.specs.{Link, Reaction, value, Class2.due, Class2.made, Class2.link, Class2.reaction}
 use lib.{Bits.and-le-r}
 
 pub value-is : (w : ℕ) → bitAnd w 0x7fffffff ≡ value w
@@ -15,10 +15,12 @@ value-lt w = omega (arith, and-le-r w 0x7fffffff)
 
 module _ (f : InForce) (k : Link) (faulty : Bool) (w : ℕ) where
   pub reaction-is : (asks : Bool) (v : ℕ) → asks ≡ bit 31 w → v ≡ value w → v < 2 ^ 31
-      → _≡_ {A = Reaction}
+      → let d = asks && (not (k .requested) || k .due) in
+      let m = d && f .enabled && not faulty && ltb v (f .span .0) in
+      _≡_ {A = Reaction}
       (record {
-        link = record { faulty = faulty; requested = asks; error = k .error; acknowledged = k .acknowledged; executed = k .executed };
-        preset = record { made = not (k .requested) && asks && f .enabled && not faulty && ltb v (f .span .0); value = toZ w64 v; relative = false };
+        link = record { faulty = faulty; requested = asks; error = k .error; acknowledged = k .acknowledged; executed = k .executed; due = d && not m };
+        preset = record { made = m; value = toZ w64 v; relative = false };
       })
       (reaction f k faulty w)
   unfolding made link
@@ -26,15 +28,12 @@ module _ (f : InForce) (k : Link) (faulty : Bool) (w : ℕ) where
 
   -- ---- a preset that is made: the class is on, and the value is below L
   module _ (e : made f k faulty w ≡ true) where
-    abbrev rises : Bool
-    rises = not (k .requested) && asked w
-
-    tests : ((rises && f .enabled && not faulty) ≡ true) × (ltb (value w) (f .span .0) ≡ true)
+    tests : ((due k w && f .enabled && not faulty) ≡ true) × (ltb (value w) (f .span .0) ≡ true)
     unfolding made
-    tests = and-split (rises && f .enabled && not faulty) (ltb (value w) (f .span .0)) e
+    tests = and-split (due k w && f .enabled && not faulty) (ltb (value w) (f .span .0)) e
 
     pub made-on : f .enabled ≡ true
-    made-on = and-split rises (f .enabled) (and-split (rises && f .enabled) (not faulty) (tests .0) .0) .1
+    made-on = and-split (due k w) (f .enabled) (and-split (due k w && f .enabled) (not faulty) (tests .0) .0) .1
 
     pub made-below : value w < f .span .0
     made-below = ltb-true (value w) (f .span .0) (tests .1)

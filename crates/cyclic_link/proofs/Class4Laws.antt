@@ -14,7 +14,7 @@ module _ (f : InForce) (k : Link) (faulty : Bool) (w : ℕ) where
       → let m = not (k .requested) && asks && f .enabled && not error && not faulty in
       _≡_ {A = Reaction}
       (record {
-        link = record { faulty = faulty; requested = asks; error = error; acknowledged = error && acknowledge; executed = asks && (m || k .executed) };
+        link = record { faulty = faulty; requested = asks; error = error; acknowledged = error && acknowledge; executed = asks && (m || k .executed); due = k .due };
         preset = record { made = m; value = toZ w64 (ofZ w64 s); relative = relative };
       })
       (reaction f k faulty w s)

@@ -41,7 +41,7 @@ made f k faulty word = not (k .requested) && asked word && f .enabled && not (he
 abbrev pub executed : InForce → Link → Bool → ℕ → Bool
 executed f k faulty word = asked word && (made f k faulty word || k .executed)
 
--- what the cycle leaves for the next
+-- what the cycle leaves for the next; class 4 does not touch class 2's part of the link
 unfoldable pub link : InForce → Link → Bool → ℕ → Link
 link f k faulty word =
     record {
@@ -50,6 +50,7 @@ link f k faulty word =
       error = held k faulty word;
       acknowledged = seen k faulty word;
       executed = executed f k faulty word;
+      due = k .due;
     }
 
 -- the preset, of the held preset value; then link and preset together

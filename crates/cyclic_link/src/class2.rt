@@ -1,4 +1,4 @@
-// Class 2: bit 31 of the output asks for a preset of bits 0 to 30.
+// Class 2: bit 31 of the output asks for a preset of bits 0 to 30. It stays due while the bit is up (request 2).
 ghost use Rattle.integer.specs.Base.{_≡_, _<_, _^_};
 ghost use Rattle.cyclic_link.specs.Class2 as Class2;
 use crate::Link;
@@ -24,10 +24,12 @@ pub(crate) fn react(link: Link, rules: InForce, faulty: bool, word: u32) -> Reac
 {
     let requested = bit(word, ASKED);
     let value = value(word);
-    let made = !link.requested & requested & rules.enabled & !faulty & (value < rules.span.0);
+    let due = requested & (!link.requested | link.due);
+    let made = due & rules.enabled & !faulty & (value < rules.span.0);
     let mut next = link;
     next.faulty = faulty;
     next.requested = requested;
+    next.due = due & !made;
     let preset = Preset {
         made,
         value: value as i64,

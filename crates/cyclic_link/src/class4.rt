@@ -41,6 +41,7 @@ pub(crate) fn react(link: Link, rules: InForce, faulty: bool, word: u32, stored:
         error,
         acknowledged: error & acknowledges,
         executed: requested & (made | link.executed),
+        due: link.due,
     };
     let preset = Preset {
         made,

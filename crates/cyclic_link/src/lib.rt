@@ -18,6 +18,8 @@ pub struct Link {
     pub acknowledged: bool,
     // a preset was executed, and its bit is still 1
     pub executed: bool,
+    // bit 31 has risen and is still 1, and its preset has yet to be made (request 2)
+    pub due: bool,
 }
 
 // The preset that a cycle makes, if it makes one.
@@ -61,6 +63,7 @@ impl Link {
             error: false,
             acknowledged: false,
             executed: false,
+            due: false,
         }
     }
 }

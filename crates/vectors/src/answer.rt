@@ -78,6 +78,7 @@ pub(crate) fn cycled(answer: Cycled, input: &[u8]) {
     flag(k.error);
     flag(k.acknowledged);
     flag(k.executed);
+    flag(k.due);
     line(b"");
     lent(input);
 }

@@ -121,19 +121,21 @@ fn fill(bench: Bench, buffer: &mut [u8]) {
     answer::diagnosed(answer, buffer);
 }
 
-// `keep`: a link that is brought: faulty, requested, error, acknowledged, executed, 1 or 0.
+// `keep`: a link that is brought: faulty, requested, error, acknowledged, executed, due, 1 or 0. A figure that is missing is 0.
 fn keep(bench: Bench, line: &[u8]) -> Bench {
     let faulty = decimal(line, 8);
     let requested = decimal(line, faulty.next);
     let error = decimal(line, requested.next);
     let acknowledged = decimal(line, error.next);
     let executed = decimal(line, acknowledged.next);
+    let due = decimal(line, executed.next);
     let link = Link {
         faulty: faulty.value == 1,
         requested: requested.value == 1,
         error: error.value == 1,
         acknowledged: acknowledged.value == 1,
         executed: executed.value == 1,
+        due: due.value == 1,
     };
     let mut brought = bench;
     brought.link = link;
