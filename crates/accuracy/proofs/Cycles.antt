@@ -1,7 +1,6 @@
 -- A cycle beside a ledger. A faulty cycle moves nothing and makes no preset. Any other accepts the raw number and then makes the preset, if the ledger
--- says that one is made.
-use Rattle.integer.specs.Base.{_≡_, refl, Bool, true, false, cond, not, _&&_, and-true, List, [], _∷_, ℕ, zero, suc, arith, eqb, ℤ, _+ℤ_, ne-eqb}
-use Rattle.encoder.specs.{answer}
+-- says that one is made. What the ledger says is due after it, the link says too.
+use Rattle.integer.specs.Base.{_≡_, refl, Bool, true, false, cond, not, _&&_, and-true, List, ℕ, zero, suc, arith, ℤ, _+ℤ_, ne-eqb}
 use Rattle.axis_shaft.specs.{moveRefusal, movedTo}
 use Rattle.axis.specs.{rulesOn, positionOf, atRaw, presetted}
 use Rattle.axis.proofs.{Limits, singly, reported-is, raw-kept}
@@ -31,7 +30,7 @@ module _ (s : State) (output : List ℕ) where
   passed true = and-false (not (s .link .requested) && asked4 (counted output) && rulesOn (s .axis) .enabled && not (held (s .link) true (counted output)))
   passed false = rw (and-false (due (s .link) (wordOf output) && rulesOn (s .axis) .enabled))
 
-  -- and what is due after it: the link's rule is the ledger's
+  -- what is due after it: the ledger's rule is the link's
   due-by : (p : ℕ) (g : ℤ) (faulty : Bool) (o : Preset) (class : Bool) → unmade o ≡ not (reacts s output faulty class .made)
       → let j = cond class (link4 (rulesOn (s .axis)) (s .link) faulty (counted output)) (link2 (rulesOn (s .axis)) (s .link) faulty (wordOf output)) in
       withDue j (cond class (s .link .due) (due2 (ledgerOf s p g) (wordOf output) && unmade o)) ≡ j
@@ -73,9 +72,9 @@ module _ (s : State) (p : ℕ) (g : ℤ) (lim : Limits (s .axis)) (k : Keeps s p
       let o = reacts s output false class in
       let b-kept = stands-moved (record { axis = a; link = j }) p g lim k raw m (h .0) .kept in
       let x = preset-by (record { axis = atRaw a raw; link = j }) p (g +ℤ m 0) b-limits b-kept (o .value) (o .relative) (o .made) in
-      let put-is = cyclePreset (deviceOf a) (ledgerOf s p g) output in
-      let made-is : unmade put-is ≡ not (o .made) = rw (same s output p g class) (unmade-by (o .made) (o .value) (o .relative)) in
-      rw (after-is a (s .link) raw output, takenAt, faultyAt, t, link-is s output p g false put-is made-is, same s output p g class)
+      let asked = cyclePreset (deviceOf a) (ledgerOf s p g) output in
+      let made-is : unmade asked ≡ not (o .made) = rw (same s output p g class) (unmade-by (o .made) (o .value) (o .relative)) in
+      rw (after-is a (s .link) raw output, takenAt, faultyAt, t, link-is s output p g false asked made-is, same s output p g class)
       (record { stands = x .0; puts = rw (t, reported-is (atRaw a raw) b-limits) (x .1) })
   cycle-by (suc n) e h =
       let a = s .axis in
