@@ -17,7 +17,8 @@ value word = word % 2 ^ 31
 abbrev pub due : Link → ℕ → Bool
 due k word = asked word && (not (k .requested) || k .due)
 
--- it is made in the first cycle, that of the rise included, that is not faulty and has a value below L; only the making asks for the class on
+-- it is made in the first cycle, that of the rise included, with the bit still 1 that is not faulty and has a value below L; only the making asks for the
+-- class on
 unfoldable pub made : InForce → Link → Bool → ℕ → Bool
 made f k faulty word = due k word && f .enabled && not faulty && ltb (value word) (f .span .0)
 
