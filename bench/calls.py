@@ -1,7 +1,8 @@
 #!/usr/bin/env python3
 """What a cycle, a single reading and a preset cost: instructions a line of the program `vectors` (valgrind's callgrind), as the difference of a script
 with 1,000 such lines and one without, divided by 1,000. Reading the line and printing its answer are in it. Beside it stands how often a line asks what
-is in force (calls of `in_force`); printing the position of an axis asks once.
+is in force (calls of `in_force`); printing the position of an axis asks once. The last column has the instructions of `respond`, all of a cycle that
+follows on the raw number.
 
     rt check vectors && python3 bench/calls.py [PROGRAM]
 """
@@ -48,16 +49,18 @@ def counted(lines):
         subprocess.run(run, input="".join(f"{l}\n" for l in lines), text=True, stdout=subprocess.DEVNULL, stderr=subprocess.DEVNULL, check=True)
         profile = open(out).read()
     names = dict(re.findall(r"c?fn=\((\d+)\) (.+)", profile))
-    asked = sum(int(n) for f, n in re.findall(r"cfn=\((\d+)\)[^\n]*\ncalls=(\d+)", profile) if names.get(f, "").endswith("in_force"))
-    return int(re.search(r"^(?:summary|totals): (\d+)", profile, re.M)[1]), asked
+    calls = re.findall(r"cfn=\((\d+)\)[^\n]*\ncalls=(\d+)[^\n]*\n\S+ (\d+)", profile)  # function, how often, instructions in all
+    asked = sum(int(n) for f, n, _ in calls if names.get(f, "").endswith("in_force"))
+    responding = sum(int(i) for f, _, i in calls if names.get(f, "").endswith("cyclic::respond"))
+    return [int(re.search(r"^(?:summary|totals): (\d+)", profile, re.M)[1]), asked, responding]
 
 
 def main():
-    print(f"{'a line':<36} {'instructions':>12} {'in_force':>9}")
+    print(f"{'a line':<36} {'instructions':>12} {'in_force':>9} {'respond':>9}")
     for kind, (head, line) in KINDS.items():
-        without, asked = counted(head)
-        total, asked_all = counted(head + [line(i) for i in range(LINES)])
-        print(f"{kind:<36} {(total - without) / LINES:>12,.0f} {(asked_all - asked) / LINES:>9.2f}")
+        counts = zip(counted(head + [line(i) for i in range(LINES)]), counted(head))
+        total, asked, responding = ((all_lines - without) / LINES for all_lines, without in counts)
+        print(f"{kind:<36} {total:>12,.0f} {asked:>9.2f} {responding:>9.1f}")
 
 
 if __name__ == "__main__":

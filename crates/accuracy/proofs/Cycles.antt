@@ -4,7 +4,7 @@ use Rattle.integer.specs.Base.{_≡_, refl, Bool, true, false, cond, not, _&&_,
 use Rattle.axis_shaft.specs.{moveRefusal, movedTo}
 use Rattle.axis.specs.{rulesOn, positionOf, atRaw, presetted}
 use Rattle.axis.proofs.{Limits, singly, reported-is, raw-kept}
-use Rattle.cyclic_link.specs.{Preset as Reacted, Class2.due, Class2.made as made2, Class2.link as link2, Class4.asked as asked4, held, Class4.made as made4, Class4.link as link4, Classes.reaction}
+use Rattle.cyclic_link.specs.{Preset as Reacted, Class2.made as made2, Class2.link as link2, Class4.asked as asked4, held, Class4.made as made4, Class4.link as link4, Classes.reaction}
 use Rattle.cyclic.specs.{faultyAt, takenAt, wordOf, counted, class4, wordBy, linkAfter}
 use Rattle.cyclic.proofs.{after-is}
 use Rattle.accuracy.specs.{Ledger.Preset, none, made, Deed, due2, rises, preset2, preset4, cyclePreset, unmade, dueAfter, withDue, exchangedBy, withReadings, put, Supposed, Rule6, readSingly, State}
@@ -23,26 +23,26 @@ module _ (s : State) (output : List ℕ) where
   unfolding made2 made4 rulesOn
   same p g true =
       rw (and-true (rises (deviceOf (s .axis)) (ledgerOf s p g) (asked4 (counted output)) && not (held (s .link) false (counted output))))
-  same p g false = rw (and-true (due2 (ledgerOf s p g) (wordOf output) && rulesOn (s .axis) .enabled))
+  same p g false = rw (and-true (due2 (s .link) (wordOf output) && rulesOn (s .axis) .enabled))
 
   passed : (class : Bool) → reacts s output true class .made ≡ false
   unfolding made2 made4
   passed true = and-false (not (s .link .requested) && asked4 (counted output) && rulesOn (s .axis) .enabled && not (held (s .link) true (counted output)))
-  passed false = rw (and-false (due (s .link) (wordOf output) && rulesOn (s .axis) .enabled))
+  passed false = rw (and-false (due2 (s .link) (wordOf output) && rulesOn (s .axis) .enabled))
 
   -- what is due after it: the ledger's rule is the link's
-  due-by : (p : ℕ) (g : ℤ) (faulty : Bool) (o : Preset) (class : Bool) → unmade o ≡ not (reacts s output faulty class .made)
+  due-by : (faulty : Bool) (o : Preset) (class : Bool) → unmade o ≡ not (reacts s output faulty class .made)
       → let j = cond class (link4 (rulesOn (s .axis)) (s .link) faulty (counted output)) (link2 (rulesOn (s .axis)) (s .link) faulty (wordOf output)) in
-      withDue j (cond class (s .link .due) (due2 (ledgerOf s p g) (wordOf output) && unmade o)) ≡ j
+      withDue j (dueAfter class (s .link) output o) ≡ j
   unfolding link2 link4
-  due-by p g faulty o true e = refl
-  due-by p g faulty o false e = rw e
+  due-by faulty o true e = refl
+  due-by faulty o false e = rw e
 
-  link-is : (p : ℕ) (g : ℤ) (faulty : Bool) (o : Preset) → unmade o ≡ not (reacts s output faulty (class4 (s .axis .parameters)) .made)
+  link-is : (faulty : Bool) (o : Preset) → let class = class4 (s .axis .parameters) in unmade o ≡ not (reacts s output faulty class .made)
       → let j = linkAfter (rulesOn (s .axis)) (s .axis .parameters) (s .link) faulty output in
-      withDue j (dueAfter (deviceOf (s .axis)) (ledgerOf s p g) output o) ≡ j
+      withDue j (dueAfter class (s .link) output o) ≡ j
   unfolding linkAfter
-  link-is p g faulty o e = due-by p g faulty o (class4 (s .axis .parameters)) e
+  link-is faulty o e = due-by faulty o (class4 (s .axis .parameters)) e
 
 unmade-by : (t : Bool) (v : ℤ) (relative : Bool) → unmade (cond t (made v relative) none) ≡ not t
 unmade-by true v relative = refl
@@ -74,11 +74,11 @@ module _ (s : State) (p : ℕ) (g : ℤ) (lim : Limits (s .axis)) (k : Keeps s p
       let x = preset-by (record { axis = atRaw a raw; link = j }) p (g +ℤ m 0) b-limits b-kept (o .value) (o .relative) (o .made) in
       let asked = cyclePreset (deviceOf a) (ledgerOf s p g) output in
       let made-is : unmade asked ≡ not (o .made) = rw (same s output p g class) (unmade-by (o .made) (o .value) (o .relative)) in
-      rw (after-is a (s .link) raw output, takenAt, faultyAt, t, link-is s output p g false asked made-is, same s output p g class)
+      rw (after-is a (s .link) raw output, takenAt, faultyAt, t, link-is s output false asked made-is, same s output p g class)
       (record { stands = x .0; puts = rw (t, reported-is (atRaw a raw) b-limits) (x .1) })
   cycle-by (suc n) e h =
       let a = s .axis in
       let t = singly a lim raw (suc n) e in
       let none-made = passed s output (class4 (a .parameters)) in
-      rw (after-is a (s .link) raw output, takenAt, faultyAt, t, ne-eqb (suc n) 0 (λ z. omega arith), link-is s output p g true none (rw none-made), none-made)
+      rw (after-is a (s .link) raw output, takenAt, faultyAt, t, ne-eqb (suc n) 0 (λ z. omega arith), link-is s output true none (rw none-made), none-made)
       (record { stands = record { device = refl; ledger = refl; kept = k }; puts = tt })

@@ -73,12 +73,12 @@ moves l raws = record { numbers = raws; preset = none; stored = l .stored; link 
 
 -- a cycle that is not faulty makes a preset with the class on. In class 2 (request 2) one is due when bit 31 rises, 1 now and 0 as last counted, or was
 -- due and the bit is still 1; it is made of a value below L
-abbrev pub due2 : Ledger → ℕ → Bool
-due2 l word = Class2.asked word && (not (l .link .requested) || l .link .due)
+abbrev pub due2 : Link → ℕ → Bool
+due2 k word = Class2.asked word && (not (k .requested) || k .due)
 
 abbrev pub preset2 : Device → Ledger → ℕ → Preset
 preset2 d l word =
-    cond (due2 l word && force d .enabled && ltb (Class2.value word) (force d .span .0)) (made (pos (Class2.value word)) false) none
+    cond (due2 (l .link) word && force d .enabled && ltb (Class2.value word) (force d .span .0)) (made (pos (Class2.value word)) false) none
 
 -- in class 4 of the held preset value, on a rise of bit 12 while no error is held
 abbrev pub rises : Device → Ledger → Bool → Bool
@@ -96,8 +96,8 @@ abbrev pub unmade : Preset → Bool
 unmade none = true
 unmade (made v relative) = false
 
-abbrev pub dueAfter : Device → Ledger → List ℕ → Preset → Bool
-dueAfter d l output o = cond (class4 (d .parameters)) (l .link .due) (due2 l (wordOf output) && unmade o)
+abbrev pub dueAfter : Bool → Link → List ℕ → Preset → Bool
+dueAfter class k output o = cond class (k .due) (due2 k (wordOf output) && unmade o)
 
 abbrev pub withDue : Link → Bool → Link
 withDue k due =
@@ -111,7 +111,7 @@ exchangedBy d l raw output refusal =
       numbers = answer (λ _. []) (raw ∷ []) refusal;
       preset = o;
       stored = l .stored;
-      link = withDue (linkAfter (force d) (d .parameters) (l .link) (not (eqb refusal 0)) output) (dueAfter d l output o);
+      link = withDue (linkAfter (force d) (d .parameters) (l .link) (not (eqb refusal 0)) output) (dueAfter (class4 (d .parameters)) (l .link) output o);
     }
 
 abbrev pub exchanges : Device → Ledger → ℕ → List ℕ → Deed

@@ -9,7 +9,7 @@ use Rattle.axis.proofs.{Limits, limits-of, put-is, raw-kept}
 use Rattle.cyclic_link.specs.{Link, Class2.due, Class2.made, Class2.link}
 use Rattle.cyclic_link.proofs.{due-risen, due-still, makes, passes, rests, spent, waits}
 use Rattle.cyclic.specs.{takenAt, wordOf, Class2.axis, Class2.input, cycleRefusal, linkAfter, class4, axisAfter, inputOf, linkLeft, done, cycle, cycleInput}
-use Rattle.cyclic.specs.Correction.{Exchange, answered, filled, linkBehind, Up, faulty, sent, range, Waiting, AllUp, NoPreset}
+use Rattle.cyclic.specs.Correction.{Exchange, answered, filled, linkBehind, Up, faulty, sent, range, Waits, Each, NoPreset}
 use Rattle.cyclic.proofs.CycleKept.{read-same, after-same}
 use native.Mathlib.Nat as N
 use Rattle.cyclic_link.specs.Class2 as Link2
@@ -59,25 +59,25 @@ module _ (k : Link) (x : Exchange) (u : Up x) where
         rw (u .taken, class) (ap (octets 4) (rw taken-is at put))
 
 -- ---- behind the waiting cycles a preset is due, and behind one that was made nothing is
-due-behind : (k : Link) (xs : List Exchange) → Waiting xs → (x : Exchange) → Up x → ((w : ℕ) → Link2.asked w ≡ true → due k w ≡ true)
+due-behind : (k : Link) (xs : List Exchange) → Each Waits xs → (x : Exchange) → Up x → ((w : ℕ) → Link2.asked w ≡ true → due k w ≡ true)
     → due (linkBehind k xs) (wordOf (x .output)) ≡ true
-unfolding linkBehind Waiting
+unfolding linkBehind Each
 due-behind k [] waiting x u d = d (wordOf (x .output)) (u .up)
 due-behind k (y ∷ ys) waiting x u d =
-    let v = waiting .0 in
+    let v = waiting .0 .0 in
     let w = wordOf (y .output) in
-    let still : answered k y .link .due ≡ true = rw (link-is k y v) (waits (rulesOn (y .axis)) k (faulty y) w (d w (v .up)) (waiting .1)) in
-    due-behind (answered k y .link) ys (waiting .2) x u (λ w up. due-still (answered k y .link) w up still)
+    let still : answered k y .link .due ≡ true = rw (link-is k y v) (waits (rulesOn (y .axis)) k (faulty y) w (d w (v .up)) (waiting .0 .1)) in
+    due-behind (answered k y .link) ys (waiting .1) x u (λ w up. due-still (answered k y .link) w up still)
 
-none-waiting : (k : Link) (xs : List Exchange) → Waiting xs → NoPreset k xs
-unfolding Waiting NoPreset
+none-waiting : (k : Link) (xs : List Exchange) → Each Waits xs → NoPreset k xs
+unfolding Each NoPreset
 none-waiting k [] waiting = tt
 none-waiting k (x ∷ xs) waiting =
-    let t = passes (rulesOn (x .axis)) k (faulty x) (wordOf (x .output)) (waiting .1) in
-    (unmoved k x (waiting .0) t, none-waiting (answered k x .link) xs (waiting .2))
+    let t = passes (rulesOn (x .axis)) k (faulty x) (wordOf (x .output)) (waiting .0 .1) in
+    (unmoved k x (waiting .0 .0) t, none-waiting (answered k x .link) xs (waiting .1))
 
-none-behind : (k : Link) (xs : List Exchange) → AllUp xs → k .requested ≡ true → k .due ≡ false → NoPreset k xs
-unfolding AllUp NoPreset
+none-behind : (k : Link) (xs : List Exchange) → Each Up xs → k .requested ≡ true → k .due ≡ false → NoPreset k xs
+unfolding Each NoPreset
 none-behind k [] up r d = tt
 none-behind k (x ∷ xs) up r d =
     let u = up .0 in
@@ -85,13 +85,13 @@ none-behind k (x ∷ xs) up r d =
     (unmoved k x u (t .0), none-behind (answered k x .link) xs (up .1) (rw (link-is k x u) (t .1)) (rw (link-is k x u) (t .2)))
 
 -- ---- the theorem: bit 31 was 0 before, so that it rises in the first of these cycles
-pub corrected : (k : Link) → k .requested ≡ false → (waiting : List Exchange) → Waiting waiting
+pub corrected : (k : Link) → k .requested ≡ false → (waiting : List Exchange) → Each Waits waiting
     → (good : Exchange) → Up good → faulty good ≡ false → sent good < range good
     → let j = linkBehind k waiting in
     NoPreset k waiting
     × (filled j good ≡ octets 4 (sent good))
     × (positionOf (answered j good .axis) ≡ sent good)
-    × ((more : List Exchange) → AllUp more → NoPreset (answered j good .link) more)
+    × ((more : List Exchange) → Each Up more → NoPreset (answered j good .link) more)
 corrected k down waiting w good u sound below =
     let j = linkBehind k waiting in
     let word = wordOf (good .output) in

@@ -41,15 +41,14 @@ sent x = value (wordOf (x .output))
 abbrev pub range : Exchange → ℕ
 range x = rulesOn (x .axis) .span .0
 
--- the bit is up in each of these, and each is faulty or has a value too large
-unfoldable pub Waiting : List Exchange → Type 0
-Waiting [] = Unit
-Waiting (x ∷ xs) = Up x × ((faulty x || leb (range x) (sent x)) ≡ true) × Waiting xs
+-- the bit is up, and it is faulty or has a value too large
+abbrev pub Waits : Exchange → Type 0
+Waits x = Up x × ((faulty x || leb (range x) (sent x)) ≡ true)
 
--- the bit is up in each of these
-unfoldable pub AllUp : List Exchange → Type 0
-AllUp [] = Unit
-AllUp (x ∷ xs) = Up x × AllUp xs
+-- so is each of these
+unfoldable pub Each : (Exchange → Type 0) → List Exchange → Type 0
+Each so [] = Unit
+Each so (x ∷ xs) = so x × Each so xs
 
 -- none of these makes a preset: each leaves the axis as the reading of its raw number does
 unfoldable pub NoPreset : Link → List Exchange → Type 0
