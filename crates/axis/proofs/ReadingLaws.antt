@@ -79,7 +79,7 @@ abbrev pub first : Nameplate → Parameters → ℕ → Axis
 first n p raw = fresh n p (started (rulesOf n (fieldsOf p)) raw)
 
 module _ (n : Nameplate) (p : Parameters) (e : Effect) (e-is : e ≡ inForce n p) (x : Next) where
-  -- 7, 3, 4, 5, 6 come before the refusals of a first reading
+  -- 7, 3, 4, 5, 6, 17 come before the refusals of a first reading
   parameters-first : (j later : ℕ) (b : Axis) → e ≡ NotInForce j → x ≡ refused (fresh n p nowhere) j → x ≡ next (fresh n p nowhere) (refusalOn n p before later) b
   parameters-first j later b h w = let i = in-force-refused n p e j h e-is in w ∙ rw (i .0) (rw (before-first j later (i .1)) (sym (refused-is (refused (fresh n p nowhere)) _ j (i .1))))
 

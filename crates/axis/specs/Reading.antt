@@ -24,14 +24,14 @@ abbrev pub begunBy : Nameplate → Parameters → Moved → Next
 begunBy n p (To k) = accepted (fresh n p k)
 begunBy n p (NotMoved j) = refused (fresh n p nowhere) j
 
--- 7, 3, 4, 5, 6, 8, 9
+-- 7, 3, 4, 5, 6, 17, 8, 9
 unfoldable pub startRefusal : Nameplate → Parameters → ℕ → ℕ → ℕ
 startRefusal n p s t = refusalOn n p before stepRefusal n s t
 
 unfoldable pub start : Nameplate → Parameters → ℕ → ℕ → Next
 start n p s t = next (fresh n p nowhere) (startRefusal n p s t) (fresh n p (started (rulesOf n (fieldsOf p)) (rawOf n s t)))
 
--- the same from a raw number: 7, 3, 4, 5, 6, then 9 where it is C or above
+-- the same from a raw number: 7, 3, 4, 5, 6, 17, then 9 where it is C or above
 unfoldable pub startRawRefusal : Nameplate → Parameters → ℕ → ℕ
 startRawRefusal n p raw = refusalOn n p before when (leb (capacityOf n) raw) wrongTurn
 

@@ -10,12 +10,12 @@ use Rattle.encoder.specs.{declared.effect.Effect.Effect, declared.effect
 abbrev pub plate : Nameplate
 plate = plainPlate 10 3 0
 
--- the octet with the bits, revolution units 4 and total range 7
+-- the octet with the bits, revolution units 4 and total range 7; of class 4 a sign-of-life limit of 1
 abbrev pub sent2 : ℕ → Parameters
 sent2 operating = Class2 operating (record { 0 = 4 }) (record { 0 = 7 })
 
 abbrev pub sent4 : ℕ → Parameters
-sent4 operating = Class4 operating (record { 0 = 4 }) (record { 0 = 7 }) 0 0
+sent4 operating = Class4 operating (record { 0 = 4 }) (record { 0 = 7 }) 1 0
 
 -- parameters, and what the paper puts in force
 pub record Combination : Type 0 where
@@ -52,7 +52,7 @@ on = true
 abbrev pub off : Bool
 off = false
 
--- bit 0 is the code sequence, bit 1 the class, bit 3 scaling; bit 5 of class 4 is 1
+-- bit 0 is the code sequence, bit 1 the class, bit 3 scaling; bit 5 of class 4 is 1, and then 0 (request 3), and has no part in this
 abbrev pub combinations : List Combination
 combinations =
     gives (sent2 0x00) 10 30 cw off
@@ -71,4 +71,12 @@ combinations =
     ∷ gives (sent4 0x29) 10 30 cw off
     ∷ gives (sent4 0x2a) 4 7 cw on
     ∷ gives (sent4 0x2b) 4 7 ccw on
+    ∷ gives (sent4 0x00) 10 30 cw off
+    ∷ gives (sent4 0x01) 10 30 cw off
+    ∷ gives (sent4 0x02) 10 30 cw on
+    ∷ gives (sent4 0x03) 10 30 ccw on
+    ∷ gives (sent4 0x08) 10 30 cw off
+    ∷ gives (sent4 0x09) 10 30 cw off
+    ∷ gives (sent4 0x0a) 4 7 cw on
+    ∷ gives (sent4 0x0b) 4 7 ccw on
     ∷ []

@@ -4,12 +4,12 @@ pub mod Operating
 pub mod Rows
 pub mod Force
 pub mod Combinations
-pub use Refusal.{_before_, answer, classOff, halfRange, noAxis, noForm, nothingElapsed, otherIdent, reservedBit, revolutionUnits, totalRange, when, wrongBuffer, wrongLength, wrongPreset, wrongStep, wrongTurn}
+pub use Refusal.{_before_, answer, classOff, halfRange, noAxis, noForm, nothingElapsed, otherIdent, reservedBit, revolutionUnits, speedUnit, totalRange, when, wrongBuffer, wrongLength, wrongPreset, wrongStep, wrongTurn}
 unfoldable pub use Plate.{plateRefusal}
 pub use Plate.{bufferRefusal, capacityOf, plainPlate}
 pub use Operating.{classOn, reservedWrong, reversedBy, scalingOn}
 unfoldable pub use Rows.{fieldsRefusal, refusalOn}
-pub use Rows.{fieldsOf, parametersRefusal, rangeWrong, unitsWrong}
+pub use Rows.{fieldsOf, parametersRefusal, rangeWrong, signOfLife, speedWrong, unitsWrong}
 unfoldable pub use Force.{inForce, rulesFit, rulesOf}
 pub use Force.{Sound, scaleOf, spanOf}
 pub use Combinations.{Combination, combinations, plate}

@@ -1,6 +1,6 @@
 -- The octet of operating parameters, octet 9 of class 2 and octet 1 of class 4 (document 01, "Class 2 telegram", "Class 4 block"; row 3 of
 -- "When a call is turned away"). Bit 2, and bit 4 of class 4, have no part in what is in force.
-use Rattle.integer.specs.Base.{ℕ, Bool, cond, not, _&&_, _||_}
+use Rattle.integer.specs.Base.{ℕ, Bool, not, _&&_, _||_}
 use Rattle.integer.specs.{bit}
 
 -- bit 1: the class is on
@@ -15,6 +15,6 @@ scalingOn octet = classOn octet && bit 3 octet
 abbrev pub reversedBy : Bool → ℕ → Bool
 reversedBy class4 octet = bit 0 octet && (not class4 || classOn octet)
 
--- 3: bits 6 and 7 are zero; of class 2 bits 4 and 5 too; of class 4 bit 5 is 1
+-- 3: bits 6 and 7 are zero; of class 2 bits 4 and 5 too (request 3: bit 5 of class 4 may be 0 or 1)
 abbrev pub reservedWrong : Bool → ℕ → Bool
-reservedWrong class4 octet = cond class4 (not (bit 5 octet)) (bit 4 octet || bit 5 octet) || (bit 6 octet || bit 7 octet)
+reservedWrong class4 octet = not class4 && (bit 4 octet || bit 5 octet) || (bit 6 octet || bit 7 octet)

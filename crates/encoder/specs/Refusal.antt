@@ -65,6 +65,10 @@ noForm = 15
 abbrev pub noAxis : ℕ
 noAxis = 16
 
+-- sign-of-life limit (request 3): 0 while block bit 5 is 0
+abbrev pub lifeLimit : ℕ
+lifeLimit = 17
+
 -- the refusal n where a test holds, and else none
 abbrev pub when : Bool → ℕ → ℕ
 when true n = n

@@ -29,10 +29,7 @@ pub(crate) fn reserved(class4: bool, octet: u8) -> bool
     ensures { λ r. ⌜ r ≡ reservedWrong class4 octet ⌝ }
 {
     let o = octet as u32;
+    let low = bit(o, 4) | bit(o, 5);
     let high = bit(o, 6) | bit(o, 7);
-    if class4 {
-        !bit(o, 5) | high
-    } else {
-        bit(o, 4) | bit(o, 5) | high
-    }
+    (!class4 & low) | high
 }

@@ -1,6 +1,6 @@
 // The parameters of both classes, kept as sent, and their refusals (document 01, "Class 2 telegram" and "Class 4 block").
 ghost use Rattle.integer.specs.Base.{_≡_};
-ghost use Rattle.encoder.specs.{fieldsOf, fieldsRefusal, refusalOn};
+ghost use Rattle.encoder.specs.{fieldsOf, signOfLife, fieldsRefusal, refusalOn};
 use crate::nameplate::Nameplate;
 use crate::operating::reserved;
 use crate::operating::scaling;
@@ -8,6 +8,10 @@ use crate::quantity::Units;
 use crate::refusal;
 use crate::refusal::first;
 use crate::refusal::when;
+use octets::bit;
+
+// A bit of the block's first octet. While it is 0, the control expects profile version 3.1.
+const COMPATIBLE: u32 = 5;
 
 pub enum Parameters {
     // Octet 9, revolution units, total range.
@@ -32,6 +36,7 @@ pub struct Fields {
     pub operating: u8,
     pub units: Units,
     pub range: Units,
+    pub life: u8,
     pub speed: u8,
 }
 
@@ -57,19 +62,21 @@ impl Parameters {
                 operating,
                 units,
                 range,
+                life: 0,
                 speed: 0,
             },
             Parameters::Class4 {
                 operating,
                 units,
                 range,
+                life,
                 speed,
-                ..
             } => Fields {
                 class4: true,
                 operating,
                 units,
                 range,
+                life,
                 speed,
             },
         }
@@ -77,6 +84,13 @@ impl Parameters {
 }
 
 impl Fields {
+    // There is a sign of life: class 4 with block bit 5 at 0 (request 3).
+    pub fn sign_of_life(self) -> bool
+        ensures { λ r. ⌜ r ≡ signOfLife self ⌝ }
+    {
+        self.class4 & !bit(self.operating as u32, COMPATIBLE)
+    }
+
     // The refusal on a nameplate within its limits.
     fn refusal(self, plate: Nameplate) -> u8
         ensures { λ r. ⌜ r ≡ fieldsRefusal plate self ⌝ }
@@ -92,9 +106,8 @@ impl Fields {
         let units_wrong = when(scaling & units_outside, refusal::REVOLUTION_UNITS);
         let range_wrong = when(scaling & range_outside, refusal::TOTAL_RANGE);
         let speed_wrong = when(3 < self.speed, refusal::SPEED_UNIT);
-        first(
-            bits_wrong,
-            first(units_wrong, first(range_wrong, speed_wrong)),
-        )
+        let life_wrong = when(self.sign_of_life() & (self.life == 0), refusal::LIFE_LIMIT);
+        let later = first(speed_wrong, life_wrong);
+        first(bits_wrong, first(units_wrong, first(range_wrong, later)))
     }
 }

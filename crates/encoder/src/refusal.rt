@@ -50,6 +50,9 @@ pub const FORM: u8 = 15;
 // No started axis, or a record outside its limits.
 pub const NO_AXIS: u8 = 16;
 
+// Sign-of-life limit 0 while block bit 5 is 0.
+pub const LIFE_LIMIT: u8 = 17;
+
 // The refusal n where a test holds, and else none.
 pub fn when(test: bool, n: u8) -> u8
     ensures { λ r. ⌜ r ≡ when test n ⌝ }

@@ -4,7 +4,7 @@ use Rattle.encoder.specs.{Nameplate, Parameters, _before_, answer, bufferRefusa
 use Rattle.axis.specs.{startRaw}
 use Rattle.axis_batch.specs.{batch, batchList}
 
--- 7 and 13; then those of the start: 3, 4, 5, 6, and 9 of the first raw number; then those of the batch: 9 and 10, entry after entry
+-- 7 and 13; then those of the start: 3, 4, 5, 6, 17, and 9 of the first raw number; then those of the batch: 9 and 10, entry after entry
 unfoldable pub runRefusal : Nameplate → Parameters → ℕ → List ℕ → List ℕ → ℕ
 runRefusal n p first raws out =
     bufferRefusal n (length raws) (length out) (startRaw n p first .refusal)

@@ -36,7 +36,7 @@ abbrev pub blockParameters : List ℕ → Parameters
 blockParameters b =
     Class4 (octet 1 b) (record { 0 = bigEndian (part 2 5 b) }) (record { 0 = bigEndian (part 6 9 b) }) (octet 10 b) (octet 11 b)
 
--- the order of refusals: 7, 1, 3, 4, 5, 6
+-- the order of refusals: 7, 1, 3, 4, 5, 6, 17
 unfoldable pub blockRefusal : Nameplate → List ℕ → ℕ
 blockRefusal n b = frameRefusal n (length b) 11 before parametersRefusal n (blockParameters b)
 

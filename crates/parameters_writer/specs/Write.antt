@@ -22,7 +22,7 @@ unfoldable pub octetsOf : ℕ → Parameters → List ℕ → List ℕ
 octetsOf ident (Class2 operating units range) b = telegramOf ident operating units range b
 octetsOf ident (Class4 operating units range life speed) b = blockOf operating units range life speed
 
--- the refusal for a buffer of so many octets, in the order 7, 13, 3, 4, 5, 6
+-- the refusal for a buffer of so many octets, in the order 7, 13, 3, 4, 5, 6, 17
 unfoldable pub writeRefusal : Nameplate → Parameters → ℕ → ℕ
 writeRefusal n p size = bufferRefusal n size (lengthOf p) (parametersRefusal n p)
 
