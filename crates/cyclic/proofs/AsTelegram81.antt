@@ -3,25 +3,28 @@
 use Rattle.integer.specs.Base.{_≡_, true, List, ℕ, length, take, take-at}
 use Rattle.encoder.proofs.{before-none}
 use Rattle.axis.specs.{Axis, axisRefusal}
-use Rattle.cyclic_link.specs.{Link}
-use Rattle.cyclic.specs.{lengthRefusal, class4, cycleRefusal, inputLeft, cycle, cycleInput, refusal83, input83, cycle83Refusal, cycle83, cycle83Input}
+use Rattle.cyclic_link.specs.{Link, linkRefusal}
+use Rattle.cyclic.specs.{lengthRefusal, class4, life, cycleRefusal, inputLeft, cycle, cycleInput, refusal83, input83, cycle83Refusal, cycle83, cycle83Input}
 use Rattle.cyclic.proofs.{Telegram83Laws.lengths-83, Telegram83Laws.twelve-long, CycleKept.number-none}
 
 module _ (a : Axis) (k : Link) (raw e : ℕ) (output input lent : List ℕ) (twelve : length lent ≡ 12) (taken : cycle83 a k raw e output input .refusal ≡ 0) where
-  none : cycle83Refusal a e output input ≡ 0
+  none : cycle83Refusal a k e output input ≡ 0
   unfolding cycle83
-  none = number-none a _ k _ (cycle83Refusal a e output input) taken
+  none = number-none a _ k _ (cycle83Refusal a k e output input) taken
 
-  both : (axisRefusal a ≡ 0) × (refusal83 (class4 (a .parameters)) (length output) (length input) e ≡ 0)
+  each : (axisRefusal a ≡ 0) × (linkRefusal (life (a .parameters)) k ≡ 0) × (refusal83 (class4 (a .parameters)) (length output) (length input) e ≡ 0)
   unfolding cycle83Refusal
-  both = before-none (axisRefusal a) _ none
+  each =
+      let h = before-none (axisRefusal a) _ none in
+      let i = before-none (linkRefusal (life (a .parameters)) k) _ (h .1) in
+      (h .0, i .0, i .1)
 
   four : (class4 (a .parameters) ≡ true) × (length output ≡ 4)
-  four = let h = lengths-83 (class4 (a .parameters)) (length output) (length input) e (both .1) in (h .0, h .2)
+  four = let h = lengths-83 (class4 (a .parameters)) (length output) (length input) e (each .2) in (h .0, h .2)
 
-  none-81 : cycleRefusal a output lent ≡ 0
+  none-81 : cycleRefusal a k output lent ≡ 0
   unfolding cycleRefusal lengthRefusal
-  none-81 = rw (both .0, four .0, four .1, twelve)
+  none-81 = rw (each .0, each .1, four .0, four .1, twelve)
 
   pub as-telegram-81 : (cycle83 a k raw e output input ≡ cycle a k raw output lent)
       × (take 12 (cycle83Input a k raw e output input) ≡ cycleInput a k raw output lent)

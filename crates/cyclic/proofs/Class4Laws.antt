@@ -1,24 +1,32 @@
 -- The words of class 4: control words out of the output octets, and the input octets.
-use Rattle.integer.specs.Base.{_≡_, ap, _∙_, Bool, true, false, List, ℕ, _%_, _^_, arith, take, drop}
+use Rattle.integer.specs.Base.{_≡_, ap, _∙_, Bool, true, false, List, ℕ, _/_, _%_, _^_, arith, take, drop, bitAnd, and-mask}
 use Rattle.integer.specs.{bit, bigEndian}
 use Rattle.integer.proofs.{Octets.Octets, bigEndian-part}
 use Rattle.encoder.specs.{Fields, fieldsOf}
 use Rattle.axis.specs.{unshiftedOf, positionOf}
-use Rattle.cyclic_link.specs.{Link, zsw}
-use Rattle.cyclic.specs.{Standing, standing, counted, xist1, words, Class4.input}
+use Rattle.cyclic_link.specs.{Link, Control, zsw}
+use Rattle.cyclic.specs.{Standing, standing, stw2, counted, sign, control, xist1, words, Class4.input}
 
 -- ---- the control words
-module _ (output : List ℕ) (os : Octets output) (n : ℕ) (b : Bool) (n-is : n ≡ bigEndian (take 2 (drop 0 output)) % 2 ^ 32) (b-is : b ≡ bit 10 n) where
-  bit-10 : bit 10 (bigEndian (take 2 output)) ≡ b
-  bit-10 = rw (b-is, n-is, bigEndian-part output 0 2 (omega arith) os)
+module _ (output : List ℕ) (os : Octets output) (n : ℕ) (n-is : n ≡ bigEndian (take 2 (drop 0 output)) % 2 ^ 32) where
+  stw2-is : n ≡ stw2 output
+  stw2-is = n-is ∙ bigEndian-part output 0 2 (omega arith) os
 
-  pub counted-is : (w : ℕ) → b ≡ true → w ≡ bigEndian (take 2 (drop 2 output)) % 2 ^ 32 → w ≡ counted output
-  unfolding counted
-  counted-is w t w-is = rw (bit-10, t) (w-is ∙ bigEndian-part output 2 2 (omega arith) os)
+  sign-is : bitAnd (n / 2 ^ 12) 15 ≡ sign output
+  unfolding sign
+  sign-is = rw stw2-is (and-mask (stw2 output / 2 ^ 12) 4)
 
-  pub counted-none : b ≡ false → 0 ≡ counted output
-  unfolding counted
-  counted-none t = rw (bit-10, t)
+  module _ (b : Bool) (b-is : b ≡ bit 10 n) where
+    bit-10 : bit 10 (stw2 output) ≡ b
+    bit-10 = rw (b-is, stw2-is)
+
+    pub control-on : (w : ℕ) → b ≡ true → w ≡ bigEndian (take 2 (drop 2 output)) % 2 ^ 32 → _≡_ {A = Control} (record { word = w; sign = bitAnd (n / 2 ^ 12) 15 }) (control output)
+    unfolding counted
+    control-on w t w-is = rw (bit-10, t, sign-is, w-is) (ap (λ (z : ℕ). record { word = z; sign = sign output }) (bigEndian-part output 2 2 (omega arith) os))
+
+    pub control-off : b ≡ false → _≡_ {A = Control} (record { word = 0; sign = bitAnd (n / 2 ^ 12) 15 }) (control output)
+    unfolding counted
+    control-off t = rw (bit-10, t, sign-is)
 
 -- ---- the input, where the axis stands
 module _ (s : Standing) (s-is : s ≡ standing (s .axis)) where
@@ -36,7 +44,7 @@ module _ (s : Standing) (s-is : s ≡ standing (s .axis)) where
     xist1-position t = rw (← g-is, ← b-is, t) at-position
 
   module _ (k : Link) (w status first : ℕ) (l : List ℕ) (status-is : status ≡ zsw k w) (first-is : first ≡ xist1 (s .axis)) where
-    pub filled-error : k .error ≡ true → l ≡ words status first 1 → l ≡ input k w (s .axis)
+    pub filled-error : k .error ≡ true → l ≡ words status first (k .code) → l ≡ input k w (s .axis)
     unfolding input
     filled-error t l-is = l-is ∙ rw (status-is, first-is, t)
 
@@ -44,4 +52,4 @@ module _ (s : Standing) (s-is : s ≡ standing (s .axis)) where
     unfolding input
     filled-position t l-is = l-is ∙ rw (status-is, first-is, t, at-position)
 
-pub ruleset words4 = (counted-is, counted-none, xist1-unshifted, xist1-position, filled-error, filled-position)
+pub ruleset words4 = (control-on, control-off, xist1-unshifted, xist1-position, filled-error, filled-position)

@@ -15,7 +15,7 @@ use native.Mathlib.Nat as N
 use Rattle.cyclic_link.specs.Class2 as Link2
 
 -- ---- a cycle with the bit up: the link and the axis that it leaves
-module _ (k : Link) (x : Exchange) (u : Up x) where
+module _ (k : Link) (x : Exchange) (u : Up k x) where
   abbrev word : ℕ
   word = wordOf (x .output)
 
@@ -59,25 +59,25 @@ module _ (k : Link) (x : Exchange) (u : Up x) where
         rw (u .taken, class) (ap (octets 4) (rw taken-is at put))
 
 -- ---- behind the waiting cycles a preset is due, and behind one that was made nothing is
-due-behind : (k : Link) (xs : List Exchange) → Each Waits xs → (x : Exchange) → Up x → ((w : ℕ) → Link2.asked w ≡ true → due k w ≡ true)
-    → due (linkBehind k xs) (wordOf (x .output)) ≡ true
+due-behind : (k : Link) (xs : List Exchange) → Each Waits k xs → (w : ℕ) → Link2.asked w ≡ true → ((w : ℕ) → Link2.asked w ≡ true → due k w ≡ true)
+    → due (linkBehind k xs) w ≡ true
 unfolding linkBehind Each
-due-behind k [] waiting x u d = d (wordOf (x .output)) (u .up)
-due-behind k (y ∷ ys) waiting x u d =
+due-behind k [] waiting w up d = d w up
+due-behind k (y ∷ ys) waiting w up d =
     let v = waiting .0 .0 in
-    let w = wordOf (y .output) in
-    let still : answered k y .link .due ≡ true = rw (link-is k y v) (waits (rulesOn (y .axis)) k (faulty y) w (d w (v .up)) (waiting .0 .1)) in
-    due-behind (answered k y .link) ys (waiting .1) x u (λ w up. due-still (answered k y .link) w up still)
+    let word = wordOf (y .output) in
+    let still : answered k y .link .due ≡ true = rw (link-is k y v) (waits (rulesOn (y .axis)) k (faulty y) word (d word (v .up)) (waiting .0 .1)) in
+    due-behind (answered k y .link) ys (waiting .1) w up (λ w up. due-still (answered k y .link) w up still)
 
-none-waiting : (k : Link) (xs : List Exchange) → Each Waits xs → NoPreset k xs
-unfolding Each NoPreset
+none-waiting : (k : Link) (xs : List Exchange) → Each Waits k xs → Each NoPreset k xs
+unfolding Each
 none-waiting k [] waiting = tt
 none-waiting k (x ∷ xs) waiting =
     let t = passes (rulesOn (x .axis)) k (faulty x) (wordOf (x .output)) (waiting .0 .1) in
     (unmoved k x (waiting .0 .0) t, none-waiting (answered k x .link) xs (waiting .1))
 
-none-behind : (k : Link) (xs : List Exchange) → Each Up xs → k .requested ≡ true → k .due ≡ false → NoPreset k xs
-unfolding Each NoPreset
+none-behind : (k : Link) (xs : List Exchange) → Each Up k xs → k .requested ≡ true → k .due ≡ false → Each NoPreset k xs
+unfolding Each
 none-behind k [] up r d = tt
 none-behind k (x ∷ xs) up r d =
     let u = up .0 in
@@ -85,18 +85,18 @@ none-behind k (x ∷ xs) up r d =
     (unmoved k x u (t .0), none-behind (answered k x .link) xs (up .1) (rw (link-is k x u) (t .1)) (rw (link-is k x u) (t .2)))
 
 -- ---- the theorem: bit 31 was 0 before, so that it rises in the first of these cycles
-pub corrected : (k : Link) → k .requested ≡ false → (waiting : List Exchange) → Each Waits waiting
-    → (good : Exchange) → Up good → faulty good ≡ false → sent good < range good
+pub corrected : (k : Link) → k .requested ≡ false → (waiting : List Exchange) → Each Waits k waiting
     → let j = linkBehind k waiting in
-    NoPreset k waiting
+    (good : Exchange) → Up j good → faulty good ≡ false → sent good < range good
+    → Each NoPreset k waiting
     × (filled j good ≡ octets 4 (sent good))
     × (positionOf (answered j good .axis) ≡ sent good)
-    × ((more : List Exchange) → Each Up more → NoPreset (answered j good .link) more)
+    × ((more : List Exchange) → Each Up (answered j good .link) more → Each NoPreset (answered j good .link) more)
 corrected k down waiting w good u sound below =
     let j = linkBehind k waiting in
     let word = wordOf (good .output) in
     let f = rulesOn (good .axis) in
-    let m = makes f j (faulty good) word (due-behind k waiting w good u (λ w up. due-risen k w up down)) (u .on) sound below in
+    let m = makes f j (faulty good) word (due-behind k waiting w word (u .up) (λ w up. due-risen k w up down)) (u .on) sound below in
     let t = spent f j (faulty good) word (u .up) m in (
       none-waiting k waiting w,
       shows j good u m below,
@@ -105,7 +105,7 @@ corrected k down waiting w good u sound below =
     )
 
 -- with nothing between two cycles, the second gets the axis of the first, and it is of class 2 with the class on too
-pub at-once : (k : Link) (x : Exchange) → Up x → (class4 (answered k x .axis .parameters) ≡ false) × (rulesOn (answered k x .axis) .enabled ≡ true)
+pub at-once : (k : Link) (x : Exchange) → Up k x → (class4 (answered k x .axis .parameters) ≡ false) × (rulesOn (answered k x .axis) .enabled ≡ true)
 unfolding rulesOn
 at-once k x u =
     let s = after-same (x .axis) k (x .raw) (x .output) in

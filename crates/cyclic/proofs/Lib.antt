@@ -6,4 +6,4 @@ pub mod Telegram83Laws
 pub mod Acknowledging
 pub mod AsTelegram81
 pub mod Correction
-pub use CycleKept.{after-is, cycle-kept, cycle83-kept}
+pub use CycleKept.{Linked, after-is, cycle-kept, cycle-linked, cycle83-kept, cycle83-linked, left-linked, read-same}

@@ -5,15 +5,15 @@ use Rattle.integer.specs.Base.{ne-eqb, w32, SFits, toZ, ofZ}
 use Rattle.integer.specs.{octets}
 use Rattle.integer.proofs.{reads, then-number}
 use Rattle.ring.specs.{complement}
-use Rattle.encoder.specs.{Fields, InForce, fieldsOf, wrongBuffer, nothingElapsed, when}
+use Rattle.encoder.specs.{Fields, InForce, _before_, fieldsOf, wrongBuffer, nothingElapsed, when}
 use Rattle.encoder.proofs.{and-split, before-none, when-none}
 use Rattle.axis_shaft.specs.{Shaft, moveOf, moved}
 use Rattle.axis_velocity.specs.{MovedAt, declared.MovedAt.the-variants.To as ToAt, declared.MovedAt.the-variants.Refused as NotMovedAt, velocityOf, movedAt}
 use Rattle.axis_velocity.proofs.{rate-fits, at-moved, at-stays}
 use Rattle.axis.specs.{Axis, Next, rulesOn, Ready, accepted, refused, withShaft, readRaw}
 use Rattle.axis.proofs.{take-to, take-no, stands-none}
-use Rattle.cyclic_link.specs.{Link}
-use Rattle.cyclic.specs.{Cycled, Measured, faultyAt, Class4.input, class4, wordBy, inputBy, responded, axisAfter, inputOf, linkLeft}
+use Rattle.cyclic_link.specs.{Link, Life, lifeOf, linkRefusal}
+use Rattle.cyclic.specs.{Cycled, Measured, faultyAt, Class4.input, class4, controlBy, inputBy, responded, axisAfter, inputOf, linkLeft}
 use Rattle.cyclic.specs.{inputLeft, done, nistB, measured, input83, refusal83, cycle83Refusal}
 use Rattle.cyclic.proofs.{CycleKept.read-ready, CycleKept.after-same, CycleLaws.class-is, CycleLaws.taken-fields, CycleLaws.left-answer, CycleLaws.left-input}
 
@@ -68,10 +68,14 @@ lengths-83 class output input e none =
     elapsed zero none = absurd (omega arith)
     elapsed (suc e) none = omega arith
 
-pub number-83 : (a : Axis) (f : InForce) (g : Fields) (e : ℕ) (output input : List ℕ) (n : ℕ) → Ready a f → g ≡ fieldsOf (a .parameters)
-    → n ≡ refusal83 (g .class4) (length output) (length input) e → n ≡ cycle83Refusal a e output input
+pub number-83 : (a : Axis) (f : InForce) (g : Fields) (w : Life) (k : Link) (e : ℕ) (output input : List ℕ) (n : ℕ) → Ready a f → g ≡ fieldsOf (a .parameters) → w ≡ lifeOf g
+    → n ≡ (linkRefusal w k before refusal83 (g .class4) (length output) (length input) e) → n ≡ cycle83Refusal a k e output input
 unfolding cycle83Refusal
-number-83 a f g e output input n r g-is n-is = n-is ∙ rw (stands-none a f r, class-is (a .parameters) g g-is)
+number-83 a f g w k e output input n r g-is w-is n-is = n-is ∙ rw (w-is, g-is, stands-none a f r)
+
+pub passed-83 : (w : Life) (k : Link) (class : Bool) (output input e n : ℕ) → n ≡ (linkRefusal w k before refusal83 class output input e) → n ≡ 0
+    → (class ≡ true) × (0 < e) × (output ≡ 4) × (input ≡ 16)
+passed-83 w k class output input e n n-is none = lengths-83 class output input e (before-none (linkRefusal w k) (refusal83 class output input e) (sym n-is ∙ none) .1)
 
 -- ---- the input of telegram 81 has twelve octets
 pub twelve-long : (a : Axis) (k : Link) (raw : ℕ) (output : List ℕ) → class4 (a .parameters) ≡ true → length (inputLeft a k raw output) ≡ 12
@@ -79,21 +83,22 @@ unfolding inputOf input octets
 twelve-long a k raw output class = rw (after-same a k raw output .1, class)
 
 -- ---- an accepted cycle: m is the answer to the raw number with NIST_B, c what follows, i the twelve octets and j NIST_B in the lent buffer t
-module _ (a : Axis) (f : InForce) (r : Ready a f) (k : Link) (raw e : ℕ) (output : List ℕ) (g : Fields) (g-is : g ≡ fieldsOf (a .parameters)) (class : g .class4 ≡ true) (m : Measured) (m-is : m ≡ measured a raw e) where
+module _ (a : Axis) (f : InForce) (r : Ready a f) (k : Link) (raw e : ℕ) (output : List ℕ) (g : Fields) (g-is : g ≡ fieldsOf (a .parameters)) (class : g .class4 ≡ true)
+    (w : Life) (w-is : w ≡ lifeOf g) (m : Measured) (m-is : m ≡ measured a raw e) where
   next-is : m .next ≡ readRaw a raw
   next-is = ap (λ (z : Measured). z .next) m-is
 
   pub next-fields : g ≡ fieldsOf (m .next .axis .parameters)
-  next-fields = taken-fields a f r k raw output g g-is (m .next) next-is
+  next-fields = taken-fields a f r k raw output g g-is w w-is (m .next) next-is
 
-  module _ (c : Cycled) (c-is : c ≡ responded (g .class4) f k (m .next) output) where
+  module _ (c : Cycled) (c-is : c ≡ responded (g .class4) w f k (m .next) output) where
     pub answer-83 : c ≡ done (axisAfter a k raw output) (linkLeft a k raw output)
-    answer-83 = left-answer a f r k raw output g g-is (m .next) next-is c c-is
+    answer-83 = left-answer a f r k raw output g g-is w w-is (m .next) next-is c c-is
 
-    pub octets-83 : (t i j : List ℕ) → length t ≡ 16 → i ≡ inputBy (g .class4) (c .link) (wordBy (g .class4) output) (c .axis)
+    pub octets-83 : (t i j : List ℕ) → length t ≡ 16 → i ≡ inputBy (g .class4) (c .link) (controlBy (g .class4) output .word) (c .axis)
         → j ≡ octets (length (take 4 (drop 12 (i ++ postOf 0 12 t)))) (complement (toZ w32 (ofZ w32 (m .velocity))))
         → putMid 12 4 (i ++ postOf 0 12 t) j ≡ input83 a k raw e output
     unfolding input83
     octets-83 t i j h i-is j-is =
-        let l : i ≡ inputLeft a k raw output = left-input a f r k raw output g g-is (m .next) next-is c c-is i i-is in
+        let l : i ≡ inputLeft a k raw output = left-input a f r k raw output g g-is w w-is (m .next) next-is c c-is i i-is in
         then-number 12 4 t i j (complement (toZ w32 (ofZ w32 (m .velocity)))) h (rw l (twelve-long a k raw output (class-is (a .parameters) g g-is ∙ class))) j-is ∙ rw (l, m-is, reads (nist-fits a raw e))

@@ -24,9 +24,9 @@ unfoldable pub linkBehind : Link → List Exchange → Link
 linkBehind k [] = k
 linkBehind k (x ∷ xs) = linkBehind (answered k x .link) xs
 
--- it is not refused, its axis is of class 2 with the class on, and bit 31 is 1
-pub record Up (x : Exchange) : Type 0 where
-  pub taken : cycleRefusal (x .axis) (x .output) (x .input) ≡ 0
+-- on the link of the cycle before it is not refused, its axis is of class 2 with the class on, and bit 31 is 1
+pub record Up (k : Link) (x : Exchange) : Type 0 where
+  pub taken : cycleRefusal (x .axis) k (x .output) (x .input) ≡ 0
   pub class2 : class4 (x .axis .parameters) ≡ false
   pub on : rulesOn (x .axis) .enabled ≡ true
   pub up : asked (wordOf (x .output)) ≡ true
@@ -42,15 +42,14 @@ abbrev pub range : Exchange → ℕ
 range x = rulesOn (x .axis) .span .0
 
 -- the bit is up, and it is faulty or has a value too large
-abbrev pub Waits : Exchange → Type 0
-Waits x = Up x × ((faulty x || leb (range x) (sent x)) ≡ true)
+abbrev pub Waits : Link → Exchange → Type 0
+Waits k x = Up k x × ((faulty x || leb (range x) (sent x)) ≡ true)
 
--- so is each of these
-unfoldable pub Each : (Exchange → Type 0) → List Exchange → Type 0
-Each so [] = Unit
-Each so (x ∷ xs) = so x × Each so xs
+-- it makes no preset: it leaves the axis as the reading of its raw number does
+abbrev pub NoPreset : Link → Exchange → Type 0
+NoPreset k x = answered k x .axis ≡ readRaw (x .axis) (x .raw) .axis
 
--- none of these makes a preset: each leaves the axis as the reading of its raw number does
-unfoldable pub NoPreset : Link → List Exchange → Type 0
-NoPreset k [] = Unit
-NoPreset k (x ∷ xs) = (answered k x .axis ≡ readRaw (x .axis) (x .raw) .axis) × NoPreset (answered k x .link) xs
+-- so is each of these, on the link of the one before
+unfoldable pub Each : (Link → Exchange → Type 0) → Link → List Exchange → Type 0
+Each so k [] = Unit
+Each so k (x ∷ xs) = so k x × Each so (answered k x .link) xs

@@ -6,8 +6,8 @@ use Rattle.ring.specs.{complement}
 use Rattle.encoder.specs.{wrongBuffer, nothingElapsed, when, _before_, answer}
 use Rattle.axis.specs.{Axis, rulesOn, axisRefusal, readRaw}
 use Rattle.axis_velocity.specs.{velocityOf}
-use Rattle.cyclic_link.specs.{Link}
-use Rattle.cyclic.specs.{declared.Cycled.Cycled, declared.standing.Measured.Measured, Raw.faultyAt, Cycle.class4, Cycle.axisAfter, Cycle.linkLeft}
+use Rattle.cyclic_link.specs.{Link, linkRefusal}
+use Rattle.cyclic.specs.{declared.Cycled.Cycled, declared.standing.Measured.Measured, Raw.faultyAt, Cycle.class4, Cycle.life, Cycle.axisAfter, Cycle.linkLeft}
 use Rattle.cyclic.specs.{Cycle.inputLeft, Cycle.cycled}
 
 -- NIST_B is the velocity at this cycle's raw number, of the axis as it stood before the cycle: so a preset has no part in it. In a faulty cycle it is 0
@@ -28,14 +28,17 @@ refusal83 class output input e =
     when (not (class && eqb output 4 && eqb input 16)) wrongBuffer
     before when (eqb e 0) nothingElapsed
 
--- 16, 13, 14
-unfoldable pub cycle83Refusal : Axis → ℕ → List ℕ → List ℕ → ℕ
-cycle83Refusal a e output input = axisRefusal a before refusal83 (class4 (a .parameters)) (length output) (length input) e
+-- 16, of the axis or of the link (request 3), 13, 14
+unfoldable pub cycle83Refusal : Axis → Link → ℕ → List ℕ → List ℕ → ℕ
+cycle83Refusal a k e output input =
+    axisRefusal a
+    before linkRefusal (life (a .parameters)) k
+    before refusal83 (class4 (a .parameters)) (length output) (length input) e
 
 -- the next axis and the next link are those of telegram 81; refused, they are kept
 unfoldable pub cycle83 : Axis → Link → ℕ → ℕ → List ℕ → List ℕ → Cycled
-cycle83 a k raw e output input = cycled a k (axisAfter a k raw output) (linkLeft a k raw output) (cycle83Refusal a e output input)
+cycle83 a k raw e output input = cycled a k (axisAfter a k raw output) (linkLeft a k raw output) (cycle83Refusal a k e output input)
 
 -- the lent input octets: kept where the cycle is refused
 unfoldable pub cycle83Input : Axis → Link → ℕ → ℕ → List ℕ → List ℕ → List ℕ
-cycle83Input a k raw e output input = answer (λ _. input) (input83 a k raw e output) (cycle83Refusal a e output input)
+cycle83Input a k raw e output input = answer (λ _. input) (input83 a k raw e output) (cycle83Refusal a k e output input)

@@ -4,6 +4,7 @@ ghost use Rattle.encoder.specs.{fieldsOf};
 ghost use Rattle.cyclic.specs.{standing};
 ghost use Rattle.cyclic.specs.Class4 as Class4;
 use crate::standing::Standing;
+use cyclic_link::Control;
 use cyclic_link::Link;
 use cyclic_link::class4::zsw;
 use encoder::parameters::Fields;
@@ -19,15 +20,20 @@ const ZSW2: u32 = 0x0200;
 // A bit of the block's first octet. While it is 1, G1_XIST1 shows the unshifted position.
 const UNSHIFTED: u32 = 2;
 
-// G1_STW as counted.
-pub(crate) fn counted(output: &[u8]) -> u32
+// What the control sends: G1_STW as counted, and the sign of life, which bit 10 has no part in.
+pub(crate) fn control(output: &[u8]) -> Control
     requires { ⌜ length (now output) ≡ 4 ⌝ }
-    ensures { λ r. ⌜ r ≡ Class4.counted (now (output .entry)) ⌝ }
+    ensures { λ r. ⌜ r ≡ Class4.control (now (output .entry)) ⌝ }
 {
-    if bit(number(&output[0..2]), CONTROLLED) {
-        return number(&output[2..4]);
+    let stw2 = number(&output[0..2]);
+    let sign = (stw2 >> 12) & 15;
+    if bit(stw2, CONTROLLED) {
+        return Control {
+            word: number(&output[2..4]),
+            sign,
+        };
     }
-    0
+    Control { word: 0, sign }
 }
 
 // G1_XIST1.
@@ -49,7 +55,7 @@ pub(crate) fn fill(fields: Fields, after: Standing, link: Link, word: u32, input
     let zsw = zsw(link, word);
     let xist1 = xist1(fields, after);
     if link.error {
-        put(zsw, xist1, 1, input);
+        put(zsw, xist1, link.code, input);
     } else {
         put(zsw, xist1, after.position.0, input);
     }

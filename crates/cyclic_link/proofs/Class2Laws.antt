@@ -19,7 +19,7 @@ module _ (f : InForce) (k : Link) (faulty : Bool) (w : ℕ) where
       let m = d && f .enabled && not faulty && ltb v (f .span .0) in
       _≡_ {A = Reaction}
       (record {
-        link = record { faulty = faulty; requested = asks; error = k .error; acknowledged = k .acknowledged; executed = k .executed; due = d && not m };
+        link = record { faulty = faulty; requested = asks; error = k .error; acknowledged = k .acknowledged; executed = k .executed; due = d && not m; counter = k .counter; expected = k .expected; code = k .code };
         preset = record { made = m; value = toZ w64 v; relative = false };
       })
       (reaction f k faulty w)

@@ -1,33 +1,34 @@
 -- Class 4: the next link, the preset and the status word. The bits of the status word do not overlap, so that `or` is a sum.
-use Rattle.integer.specs.Base.{_≡_, _∙_, Bool, true, not, _&&_, _||_, ℕ, _+_, _*_, _/_, _%_, _^_, _<_, arith, ℤ, w64, SFits, toZ, ofZ, boolByte}
+use Rattle.integer.specs.Base.{_≡_, _∙_, Bool, true, not, _&&_, _||_, ℕ, _+_, _*_, _/_, _%_, _^_, _<_, arith, eqb, ℤ, w64, SFits, toZ, ofZ, boolByte}
 use Rattle.integer.specs.{bit}
 use Rattle.integer.proofs.{reads, flag-lt, at-is}
 use Rattle.encoder.specs.{InForce}
 use Rattle.encoder.proofs.{and-split}
-use Rattle.cyclic_link.specs.{Link, Reaction, Class4.asked, heldBy, held, Class4.made, Class4.link, Class4.reaction, zsw}
+use Rattle.cyclic_link.specs.{Link, Reaction, Class4.asked, codeBy, code, held, Class4.made, Class4.link, Class4.reaction, zsw}
 use lib.{Bits.bitOr, Bits.or-shifted}
 use native.Mathlib.Nat as N
 
-module _ (f : InForce) (k : Link) (faulty : Bool) (w : ℕ) where
-  pub reaction-is : (acknowledge asks park error relative : Bool) (s : ℤ) → acknowledge ≡ bit 15 w → asks ≡ bit 12 w → park ≡ bit 14 w
-      → error ≡ heldBy k faulty park acknowledge → relative ≡ bit 11 w → SFits w64 s
-      → let m = not (k .requested) && asks && f .enabled && not error && not faulty in
+module _ (f : InForce) (k : Link) (stopped faulty : Bool) (w : ℕ) where
+  pub reaction-is : (acknowledge asks park relative : Bool) (n : ℕ) (s : ℤ) → acknowledge ≡ bit 15 w → asks ≡ bit 12 w → park ≡ bit 14 w
+      → n ≡ codeBy k stopped faulty park acknowledge → relative ≡ bit 11 w → SFits w64 s
+      → let error = not (eqb n 0) in
+      let m = not (k .requested) && asks && f .enabled && not error && not faulty in
       _≡_ {A = Reaction}
       (record {
-        link = record { faulty = faulty; requested = asks; error = error; acknowledged = error && acknowledge; executed = asks && (m || k .executed); due = k .due };
+        link = record { faulty = faulty; requested = asks; error = error; acknowledged = error && acknowledge; executed = asks && (m || k .executed); due = k .due; counter = k .counter; expected = k .expected; code = n };
         preset = record { made = m; value = toZ w64 (ofZ w64 s); relative = relative };
       })
-      (reaction f k faulty w s)
-  unfolding held made link
-  reaction-is acknowledge asks park error relative s a-is asks-is p-is error-is relative-is fits =
-      rw (error-is, a-is, asks-is, p-is, relative-is, reads fits)
+      (reaction f k stopped faulty w s)
+  unfolding code made link
+  reaction-is acknowledge asks park relative n s a-is asks-is p-is n-is relative-is fits =
+      rw (n-is, a-is, asks-is, p-is, relative-is, reads fits)
 
   -- ---- a preset that is made: the class is on
-  pub made-on : made f k faulty w ≡ true → f .enabled ≡ true
+  pub made-on : made f k stopped faulty w ≡ true → f .enabled ≡ true
   unfolding made
   made-on e =
       let rises = not (k .requested) && asked w && f .enabled in
-      let error = held k faulty w in
+      let error = held k stopped faulty w in
       and-split (not (k .requested) && asked w) (f .enabled) (and-split rises (not error) (and-split (rises && not error) (not faulty) e .0) .0) .1
 
 -- ---- the status word: what is below the lowest bit of a is added

@@ -36,6 +36,9 @@ link f k faulty word =
       acknowledged = k .acknowledged;
       executed = k .executed;
       due = stillDue f k faulty word;
+      counter = k .counter;
+      expected = k .expected;
+      code = k .code;
     }
 
 -- the preset; then link and preset together

@@ -4,4 +4,15 @@ use Rattle.cyclic_link.specs.declared.Link.{Link}
 
 -- all 0 at the start
 abbrev pub quiet : Link
-quiet = record { faulty = false; requested = false; error = false; acknowledged = false; executed = false; due = false }
+quiet =
+    record {
+      faulty = false;
+      requested = false;
+      error = false;
+      acknowledged = false;
+      executed = false;
+      due = false;
+      counter = 0;
+      expected = 0;
+      code = 0;
+    }

@@ -16,24 +16,42 @@ const PRESET: u32 = 12;
 
 const RELATIVE: u32 = 11;
 
-// Whether an error is held. A faulty cycle that is not parked holds one, and it stays until it is acknowledged.
-fn held(link: Link, faulty: bool, parked: bool, acknowledges: bool) -> bool
-    ensures { λ r. ⌜ r ≡ Class4.heldBy link faulty parked acknowledges ⌝ }
+// The codes of errors: the cycle was faulty; the master's sign of life has failed.
+pub(crate) const SENSOR_FAULT: u32 = 0x0001;
+
+pub(crate) const LIFE_FAULT: u32 = 0x0f02;
+
+// The code that is held, 0 for none. An error stays, with its code, until it is acknowledged in a cycle with neither cause.
+fn code(link: Link, stopped: bool, faulty: bool, parked: bool, acknowledges: bool) -> u32
+    ensures { λ r. ⌜ r ≡ Class4.codeBy link stopped faulty parked acknowledges ⌝ }
 {
-    let arises = link.error | (faulty & !parked);
-    if link.acknowledged & !acknowledges {
-        return arises & faulty;
+    if link.acknowledged & !acknowledges & !(faulty | stopped) {
+        return 0;
     }
-    arises
+    if link.error {
+        return link.code;
+    }
+    if faulty & !parked {
+        return SENSOR_FAULT;
+    }
+    if stopped { LIFE_FAULT } else { 0 }
 }
 
-// The next link, and the preset of the held preset value.
-pub(crate) fn react(link: Link, rules: InForce, faulty: bool, word: u32, stored: i64) -> Reaction
-    ensures { λ r. ⌜ r ≡ Class4.reaction rules link faulty word stored ⌝ }
+// The next link, and the preset of the held preset value. The link is that once this cycle is counted.
+pub(crate) fn react(
+    link: Link,
+    stopped: bool,
+    rules: InForce,
+    faulty: bool,
+    word: u32,
+    stored: i64,
+) -> Reaction
+    ensures { λ r. ⌜ r ≡ Class4.reaction rules link stopped faulty word stored ⌝ }
 {
     let acknowledges = bit(word, ACKNOWLEDGE);
     let requested = bit(word, PRESET);
-    let error = held(link, faulty, bit(word, PARK), acknowledges);
+    let code = code(link, stopped, faulty, bit(word, PARK), acknowledges);
+    let error = code != 0;
     let made = !link.requested & requested & rules.enabled & !error & !faulty;
     let next = Link {
         faulty,
@@ -42,6 +60,9 @@ pub(crate) fn react(link: Link, rules: InForce, faulty: bool, word: u32, stored:
         acknowledged: error & acknowledges,
         executed: requested & (made | link.executed),
         due: link.due,
+        counter: link.counter,
+        expected: link.expected,
+        code,
     };
     let preset = Preset {
         made,

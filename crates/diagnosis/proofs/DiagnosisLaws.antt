@@ -2,11 +2,11 @@
 use Rattle.integer.specs.Base.{_≡_, refl, sym, _∙_, true, List, _++_, ℕ, length, eqb-true, putMid, postOf}
 use Rattle.integer.specs.{octets}
 use Rattle.integer.proofs.{four-parts}
-use Rattle.encoder.specs.{InForce, Effect, Taken}
+use Rattle.encoder.specs.{InForce, Effect, Taken, fieldsOf}
 use Rattle.encoder.proofs.{exits, when-none, before-none}
 use Rattle.axis.specs.{Axis, Ready, axisRefusal, inForceOn}
 use Rattle.axis.proofs.{ready-of, outside-answer}
-use Rattle.cyclic_link.specs.{Link}
+use Rattle.cyclic_link.specs.{Link, lifeOf, linkRefusal}
 use Rattle.diagnosis.specs.{lengthBy, general, versions, values, identity, report, diagnosisRefusal}
 
 -- ---- the parts in a buffer of 57 octets
@@ -28,9 +28,11 @@ module _ (t g v w i : List ℕ) (a : Axis) (f : InForce) (r : Ready a f) (k : Li
       ∙ rw (← r .is, on, g-is, v-is, w-is, i-is)
 
 -- ---- a buffer that is filled has the length
-pub right-length : (a : Axis) (e : Effect) (f : InForce) (size k : ℕ) → e ≡ Taken f → e ≡ inForceOn a → k ≡ 0 → k ≡ diagnosisRefusal a size → size ≡ lengthBy f
-right-length a e f size k h e-is none k-is =
-    rw (ready-of a e f h e-is .is) (eqb-true _ _ (when-none _ 12 (before-none (axisRefusal a) _ (sym k-is ∙ none) .1)))
+pub right-length : (a : Axis) (l : Link) (e : Effect) (f : InForce) (size k : ℕ) → e ≡ Taken f → e ≡ inForceOn a → k ≡ 0 → k ≡ diagnosisRefusal a l size → size ≡ lengthBy f
+right-length a l e f size k h e-is none k-is =
+    let axis = before-none (axisRefusal a) _ (sym k-is ∙ none) in
+    let link = before-none (linkRefusal (lifeOf (fieldsOf (a .parameters))) l) _ (axis .1) in
+    rw (ready-of a e f h e-is .is) (eqb-true _ _ (when-none _ 12 (link .1)))
 
 pub ruleset entries = (exits, outside-answer)
 

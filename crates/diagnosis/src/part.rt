@@ -1,5 +1,6 @@
 // The four parts of the diagnosis, each in its own stretch of the buffer.
 ghost use Rattle.integer.specs.Base.{_≡_, length};
+ghost use Rattle.encoder.specs.{fieldsOf};
 ghost use Rattle.axis.specs.{Ready};
 ghost use Rattle.diagnosis.specs.{operatingOctet, general, versions, fourNumbers, values, identity};
 use crate::size;
@@ -12,18 +13,17 @@ use octets::put_number;
 use ring::complement;
 
 // Octets 7 to 16.
-pub(crate) fn fill_general(axis: Axis, link: Link, rules: InForce, part: &mut [u8])
-    requires { ⌜ Ready axis rules × (length (now part) ≡ 10) ⌝ }
+pub(crate) fn fill_general(fields: Fields, axis: Axis, link: Link, rules: InForce, part: &mut [u8])
+    requires { ⌜ Ready axis rules × (fields ≡ fieldsOf (axis .parameters)) × (length (now part) ≡ 10) ⌝ }
     ensures { λ _. ⌜ now (part .exit) ≡ general axis link ⌝ }
 {
-    let parameters = axis.parameters;
     let steps = axis.nameplate.steps.0;
     let turns = axis.nameplate.turns.0;
     put_number(&mut part[4..8], steps as u32);
     put_number(&mut part[8..10], turns);
     part[0] = size(rules);
     part[1] = link.faulty as u8;
-    part[2] = operating_octet(parameters.fields());
+    part[2] = operating_octet(fields);
     part[3] = (turns != 1) as u8;
 }
 

@@ -9,7 +9,7 @@ preset-requires c κs =
     let g = e .before .before in
     let t = g .before .before .before .before .before in
     let p = t .pre in
-    (p .0, preset-possible _ (t .args .link) _ (t .args .fields) (t .args .next) (p .0) _ (g .word-of .ensures) _ (e .react .ensures))
+    (p .0, preset-possible (t .args .life) _ (t .args .link) _ (t .args .fields) (t .args .next) (p .0) _ (g .control-of .ensures) _ (e .react .ensures))
 
 fill-requires : Need-fill-requires
 fill-requires c κs =
@@ -18,8 +18,8 @@ fill-requires c κs =
     let g = e .before .before in
     let t = g .before .before .before .before .before in
     let p = t .pre in (
-      left-fields _ (t .args .link) _ (t .args .fields) (t .args .next) (p .0) _ (g .word-of .ensures) _ (e .react .ensures) _ (d .preset .ensures) (p .1),
-      left-standing _ (t .args .link) _ (t .args .fields) (t .args .next) (p .0) _ (g .word-of .ensures) _ (e .react .ensures) _ (d .preset .ensures),
+      left-fields (t .args .life) _ (t .args .link) _ (t .args .fields) (t .args .next) (p .0) _ (g .control-of .ensures) _ (e .react .ensures) _ (d .preset .ensures) (p .1),
+      left-standing (t .args .life) _ (t .args .link) _ (t .args .fields) (t .args .next) (p .0) _ (g .control-of .ensures) _ (e .react .ensures) _ (d .preset .ensures),
       p .3,
     )
 
@@ -31,8 +31,8 @@ returns c =
     let g = e .before .before in
     let t = g .before .before .before .before .before in
     let p = t .pre in (
-      done-answer _ (t .args .link) _ (t .args .fields) (t .args .next) (p .0) _ (g .word-of .ensures) _ (e .react .ensures) _ (d .preset .ensures),
-      done-input _ (t .args .link) _ (t .args .fields) (t .args .next) (p .0) _ (g .word-of .ensures) _ (e .react .ensures) _ (d .preset .ensures) _ (f .fill .ensures),
+      done-answer (t .args .life) _ (t .args .link) _ (t .args .fields) (t .args .next) (p .0) _ (g .control-of .ensures) _ (e .react .ensures) _ (d .preset .ensures),
+      done-input (t .args .life) _ (t .args .link) _ (t .args .fields) (t .args .next) (p .0) _ (g .control-of .ensures) _ (e .react .ensures) _ (d .preset .ensures) _ (f .fill .ensures),
     )
 
 pub respond-spec : {M : Type 1} → statement M

@@ -4,5 +4,5 @@ use Rattle.diagnosis.proofs.{PartLaws.needs, refusal_of.Statement.state
 
 pub refusal-of-spec : {M : Type 1} → statement M
 refusal-of-spec = close (spec
-    (λ c κs. search needs) (λ c. search needs) (λ c κs. search needs)
-    (λ c. let r = c .before .before .pre in rw (c .when .ensures, stands-none _ _ r, c .before .size .ensures, r .is)))
+    (λ c κs. search needs) (λ c. search needs) (λ c κs. search needs) (λ c κs. search needs) (λ c κs. search needs) (λ c κs. search needs)
+    (λ c. let w = c .before .before in let b = w .before in let p = b .before .before .pre in rw (c .first .ensures, c .before .refusal .ensures, w .life-of .ensures, b .when .ensures, stands-none _ _ (p .0), b .before .size .ensures, p .0 .is, p .1)))

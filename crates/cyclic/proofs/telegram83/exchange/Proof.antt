@@ -11,9 +11,9 @@ respond-requires c κs =
     let s = m .before .before .before in
     let p = s .pre in (
       m .measure .ensures .1,
-      next-fields _ _ (p .0) (s .args .link) _ _ (s .args .output .now) _ (p .1) (p .2) _ (m .measure .ensures .0),
-      p .4,
-      rw (p .2) (simp (length-take, length-drop) (omega (arith, p .5))),
+      next-fields _ _ (p .0) (s .args .link) _ _ (s .args .output .now) _ (p .1) (p .3) _ (p .2) _ (m .measure .ensures .0),
+      p .5,
+      rw (p .3) (simp (length-take, length-drop) (omega (arith, p .6))),
     )
 
 returns : Need-returns
@@ -23,8 +23,8 @@ returns c =
     let m = w .before .before .before in
     let s = m .before .before .before in
     let p = s .pre in (
-      answer-83 _ _ (p .0) _ _ _ _ _ (p .1) (p .2) _ (m .measure .ensures .0) _ (w .respond .ensures .0),
-      octets-83 _ _ (p .0) _ _ _ _ _ (p .1) (p .2) _ (m .measure .ensures .0) _ (w .respond .ensures .0) (s .args .input .now) _ _ (p .5) (w .respond .ensures .1) (v .put-velocity .ensures),
+      answer-83 _ _ (p .0) _ _ _ _ _ (p .1) (p .3) _ (p .2) _ (m .measure .ensures .0) _ (w .respond .ensures .0),
+      octets-83 _ _ (p .0) _ _ _ _ _ (p .1) (p .3) _ (p .2) _ (m .measure .ensures .0) _ (w .respond .ensures .0) (s .args .input .now) _ _ (p .6) (w .respond .ensures .1) (v .put-velocity .ensures),
     )
 
 pub exchange-spec : {M : Type 1} → statement M

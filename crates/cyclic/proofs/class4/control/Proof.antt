@@ -1,6 +1,6 @@
-use Rattle.cyclic.proofs.{Class4Laws.words4, CycleLaws.needs, class4.counted.Statement.statement, class4.counted.Tie.close, class4.counted.Tie.spec}
+use Rattle.cyclic.proofs.{Class4Laws.words4, CycleLaws.needs, class4.control.Statement.statement, class4.control.Tie.close, class4.control.Tie.spec}
 
-pub counted-spec : {M : Type 1} → statement M
-counted-spec = close (spec
+pub control-spec : {M : Type 1} → statement M
+control-spec = close (spec
     (λ c. search needs) (λ c. search needs) (λ c. search needs) (λ c κs. search needs) (λ c κs. search needs) (λ c. search needs) (λ c. search needs)
     (λ c. search needs) (λ c κs. search needs) (λ c. search (needs, words4)) (λ c. search (needs, words4)))
