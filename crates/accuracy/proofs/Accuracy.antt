@@ -7,10 +7,10 @@ use Rattle.sensor.specs.{stepRefusal}
 use Rattle.sensor.proofs.{reading-lt}
 use Rattle.axis_shaft.specs.{started}
 use Rattle.axis.specs.{Axis, rulesOn, fresh, startRefusal, start, startRawRefusal, startRaw}
-use Rattle.axis.proofs.{Limits, reported-is, begun-kept, number-lt}
+use Rattle.axis.proofs.{reported-is, begun-kept, number-lt}
 use Rattle.cyclic_link.specs.{quiet}
 use Rattle.accuracy.specs.{First, firstReading, firstNumber, Device, force, startBy, firstRaw, Event, Accurate, Claim.Claim, State, begin, yields, ours}
-use Rattle.accuracy.proofs.{Kept.kept-start, LimitsKept.call-kept, Standing.deviceOf, Standing.ledgerOf, Standing.Keeps, Standing.stands-agrees, Steps.done}
+use Rattle.accuracy.proofs.{Kept.kept-start, LimitsKept.Within, LimitsKept.call-kept, LimitsKept.start-linked, Standing.deviceOf, Standing.ledgerOf, Standing.Keeps, Standing.stands-agrees, Steps.done}
 use Rattle.accuracy.proofs.{Steps.lent}
 
 -- ---- the start, by step and turn or by raw number: a raw number below C, and the axis at it
@@ -32,17 +32,17 @@ begun d (firstNumber raw) none =
     (h .0, number-lt n (d .parameters) raw (h .1), rw none)
 
 -- ---- the list
-accurate : (es : List Event) (s : State) (p : ℕ) (g : ℤ) → Limits (s .axis) → Keeps s p g → Accurate (deviceOf (s .axis)) ours s (ledgerOf s p g) es
+accurate : (es : List Event) (s : State) (p : ℕ) (g : ℤ) → Within s → Keeps s p g → Accurate (deviceOf (s .axis)) ours s (ledgerOf s p g) es
 unfolding Accurate
-accurate [] s p g lim k = rw (reported-is (s .axis) lim) (stands-agrees s p g lim k)
-accurate (e ∷ es) s p g lim k = (
-  rw (reported-is (s .axis) lim) (stands-agrees s p g lim k),
+accurate [] s p g limits k = rw (reported-is (s .axis) (limits .axis)) (stands-agrees s p g (limits .axis) k)
+accurate (e ∷ es) s p g limits k = (
+  rw (reported-is (s .axis) (limits .axis)) (stands-agrees s p g (limits .axis) k),
   λ h.
       let c = e .call in
-      let b-limits = call-kept s c lim in
-      let t = done s p g lim k (e .steps) c h in
+      let b-limits = call-kept s c limits in
+      let t = done s p g limits k (e .steps) c h in
       let rest = rw (t .stands .device, t .stands .ledger) at (accurate es (yields s c) _ _ b-limits (t .stands .kept)) in
-      rw (reported-is (yields s c .axis) b-limits) (t .puts, lent s p g lim k (e .steps) c h, rest),
+      rw (reported-is (yields s c .axis) (b-limits .axis)) (t .puts, lent s p g limits k (e .steps) c h, rest),
 )
 
 pub accuracy : Claim ours
@@ -50,4 +50,6 @@ unfolding started rulesOn
 accuracy d first none es =
     let h = begun d first none in
     let lim = begun-kept (d .plate) (d .parameters) (firstRaw d first) (h .0) (h .1) in
-    rw (h .2) (accurate es (record { axis = at d first; link = quiet }) 0 _ lim (kept-start (force d) (lim .shaft .sound) (firstRaw d first)))
+    let s : State = record { axis = at d first; link = quiet } in
+    let limits : Within s = record { axis = lim; link = start-linked (at d first) } in
+    rw (h .2) (accurate es s 0 _ limits (kept-start (force d) (lim .shaft .sound) (firstRaw d first)))

@@ -4,8 +4,9 @@ use Rattle.integer.specs.Base.{_≡_, refl, Bool, true, false, cond, not, _&&_,
 use Rattle.axis_shaft.specs.{moveRefusal, movedTo}
 use Rattle.axis.specs.{rulesOn, positionOf, atRaw, presetted}
 use Rattle.axis.proofs.{Limits, singly, reported-is, raw-kept}
-use Rattle.cyclic_link.specs.{Preset as Reacted, Class2.made as made2, Class2.link as link2, Class4.asked as asked4, held, Class4.made as made4, Class4.link as link4, Classes.reaction}
-use Rattle.cyclic.specs.{faultyAt, takenAt, wordOf, counted, class4, wordBy, linkAfter}
+use Rattle.cyclic_link.specs.{Link, Preset as Reacted, Class2.made as made2, Class2.link as link2, Class4.asked as asked4, held, Class4.made as made4, Class4.link as link4, Classes.reaction}
+use Rattle.cyclic_link.proofs.{heard-requested, heard-due}
+use Rattle.cyclic.specs.{faultyAt, takenAt, wordOf, counted, sign, heardIn, stoppedIn, class4, life, controlBy, linkAfter}
 use Rattle.cyclic.proofs.{after-is}
 use Rattle.accuracy.specs.{Ledger.Preset, none, made, Deed, due2, rises, preset2, preset4, cyclePreset, unmade, dueAfter, withDue, exchangedBy, withReadings, put, Supposed, Rule6, readSingly, State}
 use Rattle.accuracy.proofs.{Standing.deviceOf, Standing.ledgerOf, Standing.Keeps, Standing.Matches, Standing.onward, Standing.stands-moved, Standing.Done}
@@ -14,28 +15,36 @@ use mathlib.{Core.Bool.and-false}
 
 -- ---- whether a preset is made: the link's test is the ledger's, and a faulty cycle makes none
 abbrev reacts : State → List ℕ → Bool → Bool → Reacted
-reacts s output faulty class = reaction class (rulesOn (s .axis)) (s .link) faulty (wordBy class output) (s .axis .stored) .preset
+reacts s output faulty class =
+    reaction class (life (s .axis .parameters)) (rulesOn (s .axis)) (s .link) faulty (controlBy class output) (s .axis .stored) .preset
 
 module _ (s : State) (output : List ℕ) where
+  -- the link once this cycle is counted, and whether its counter stands at its stop
+  abbrev now : Link
+  now = heardIn (life (s .axis .parameters)) (s .link) output
+
+  abbrev stopped : Bool
+  stopped = stoppedIn (life (s .axis .parameters)) (s .link) output
+
   same : (p : ℕ) (g : ℤ) (class : Bool) → let o = reacts s output false class in
-      cond class (preset4 (deviceOf (s .axis)) (ledgerOf s p g) (counted output)) (preset2 (deviceOf (s .axis)) (ledgerOf s p g) (wordOf output))
+      cond class (preset4 (deviceOf (s .axis)) (ledgerOf s p g) output) (preset2 (deviceOf (s .axis)) (ledgerOf s p g) (wordOf output))
       ≡ cond (o .made) (made (o .value) (o .relative)) none
   unfolding made2 made4 rulesOn
   same p g true =
-      rw (and-true (rises (deviceOf (s .axis)) (ledgerOf s p g) (asked4 (counted output)) && not (held (s .link) false (counted output))))
+      rw (heard-requested (life (s .axis .parameters)) (s .link) (sign output), and-true (rises (deviceOf (s .axis)) (ledgerOf s p g) (asked4 (counted output)) && not (held now stopped false (counted output))))
   same p g false = rw (and-true (due2 (s .link) (wordOf output) && rulesOn (s .axis) .enabled))
 
   passed : (class : Bool) → reacts s output true class .made ≡ false
   unfolding made2 made4
-  passed true = and-false (not (s .link .requested) && asked4 (counted output) && rulesOn (s .axis) .enabled && not (held (s .link) true (counted output)))
+  passed true = and-false (not (now .requested) && asked4 (counted output) && rulesOn (s .axis) .enabled && not (held now stopped true (counted output)))
   passed false = rw (and-false (due2 (s .link) (wordOf output) && rulesOn (s .axis) .enabled))
 
   -- what is due after it: the ledger's rule is the link's
   due-by : (faulty : Bool) (o : Preset) (class : Bool) → unmade o ≡ not (reacts s output faulty class .made)
-      → let j = cond class (link4 (rulesOn (s .axis)) (s .link) faulty (counted output)) (link2 (rulesOn (s .axis)) (s .link) faulty (wordOf output)) in
+      → let j = cond class (link4 (rulesOn (s .axis)) now stopped faulty (counted output)) (link2 (rulesOn (s .axis)) (s .link) faulty (wordOf output)) in
       withDue j (dueAfter class (s .link) output o) ≡ j
   unfolding link2 link4
-  due-by faulty o true e = refl
+  due-by faulty o true e = rw (heard-due (life (s .axis .parameters)) (s .link) (sign output))
   due-by faulty o false e = rw e
 
   link-is : (faulty : Bool) (o : Preset) → let class = class4 (s .axis .parameters) in unmade o ≡ not (reacts s output faulty class .made)

@@ -12,6 +12,7 @@ pub mod OneUnit
 mod Listing
 pub mod Worthless
 pub mod Telegram83
+pub mod SignOfLife
 pub mod Worked
 pub use Accuracy.{accuracy}
 pub use OneUnit.{told}

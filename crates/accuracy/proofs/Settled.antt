@@ -1,4 +1,4 @@
--- The ledger's table is that of the calls: an axis within its limits does not get 16, and each call answers the number that the ledger works out from
+-- The ledger's table is that of the calls: an axis and a link within their limits do not get 16, and each call answers the number that the ledger works out from
 -- the arguments; at 0 it goes where its rule says.
 use Rattle.integer.specs.Base.{_≡_, refl, List, _++_, ℕ, zero, suc, ℤ}
 use Rattle.integer.specs.{octets}
@@ -11,10 +11,11 @@ use Rattle.axis.specs.{Axis, rulesOn, accepted, refused, next, atRaw, readRawRe
 use Rattle.axis.proofs.{Limits, limits-none}
 use Rattle.axis_batch.specs.{after, positionsOf, batchRefusal, batch, batchList}
 use Rattle.axis_batch.proofs.{first-is}
-use Rattle.cyclic.specs.{cycleRefusal, linkLeft, axisAfter, inputOf, done, refused as kept, cycle, cycleInput, nistB, input83, cycle83Refusal, cycle83}
+use Rattle.cyclic_link.specs.{linkRefusal}
+use Rattle.cyclic.specs.{life, cycleRefusal, linkLeft, axisAfter, inputOf, done, refused as kept, cycle, cycleInput, nistB, input83, cycle83Refusal, cycle83}
 use Rattle.cyclic.specs.{cycle83Input}
 use Rattle.accuracy.specs.{Call, reading, rawReading, batching, presetting, storing, cycling, measuring, refusalBy, State, to, both, yields}
-use Rattle.accuracy.proofs.Standing.{deviceOf, ledgerOf, onward}
+use Rattle.accuracy.proofs.{LimitsKept.Within, Standing.deviceOf, Standing.ledgerOf, Standing.onward}
 
 -- the state after an accepted cycle of either telegram, and after any accepted call
 abbrev pub left : State → ℕ → List ℕ → State
@@ -34,7 +35,14 @@ through : {A B : Type 0} (f : A → B) (r : ℕ → A) (t : A) (n : ℕ) → f (
 through f r t zero = refl
 through f r t (suc n) = refl
 
-module _ (s : State) (p : ℕ) (g : ℤ) (lim : Limits (s .axis)) where
+module _ (s : State) (p : ℕ) (g : ℤ) (limits : Within s) where
+  abbrev lim : Limits (s .axis)
+  lim = limits .axis
+
+  link-none : linkRefusal (life (s .axis .parameters)) (s .link) ≡ 0
+  unfolding linkRefusal
+  link-none = rw (limits .link)
+
   abbrev number : Call → ℕ
   number c = refusalBy (deviceOf (s .axis)) (ledgerOf s p g) c
 
@@ -46,13 +54,13 @@ module _ (s : State) (p : ℕ) (g : ℤ) (lim : Limits (s .axis)) where
   unfolding batchRefusal rulesOn
   batch-is raws positions = rw (limits-none (s .axis) lim, first-is (s .axis) raws lim)
 
-  cycle-is : (raw : ℕ) (output input : List ℕ) → cycleRefusal (s .axis) output input ≡ number (cycling raw output input)
+  cycle-is : (raw : ℕ) (output input : List ℕ) → cycleRefusal (s .axis) (s .link) output input ≡ number (cycling raw output input)
   unfolding cycleRefusal
-  cycle-is raw output input = rw (limits-none (s .axis) lim)
+  cycle-is raw output input = rw (limits-none (s .axis) lim, link-none)
 
-  cycle83-is : (raw elapsed : ℕ) (output input : List ℕ) → cycle83Refusal (s .axis) elapsed output input ≡ number (measuring raw elapsed output input)
+  cycle83-is : (raw elapsed : ℕ) (output input : List ℕ) → cycle83Refusal (s .axis) (s .link) elapsed output input ≡ number (measuring raw elapsed output input)
   unfolding cycle83Refusal
-  cycle83-is raw elapsed output input = rw (limits-none (s .axis) lim)
+  cycle83-is raw elapsed output input = rw (limits-none (s .axis) lim, link-none)
 
   by-next : (n : ℕ) (b : Axis) → to s (next (s .axis) n b) ≡ answer (λ (i : ℕ). s) (onward s b) n
   by-next n b = through (to s) (refused (s .axis)) (accepted b) n

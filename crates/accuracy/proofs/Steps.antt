@@ -11,11 +11,14 @@ use Rattle.axis_batch.specs.{after, positionsOf, batchList}
 use Rattle.cyclic.specs.{inputOf}
 use Rattle.accuracy.specs.{Call, reading, rawReading, batching, presetting, storing, cycling, measuring, Device, force, Ledger.Ledger, refusalBy, moves, does, deed}
 use Rattle.accuracy.specs.{withReadings, noted, Supposed, Entries, Shown, Lent, readSingly, State, yields, lentBy}
-use Rattle.accuracy.proofs.{LimitsKept.call-kept, Standing.deviceOf, Standing.ledgerOf, Standing.Keeps, Standing.Matches, Standing.onward}
+use Rattle.accuracy.proofs.{LimitsKept.Within, LimitsKept.call-kept, Standing.deviceOf, Standing.ledgerOf, Standing.Keeps, Standing.Matches, Standing.onward}
 use Rattle.accuracy.proofs.{Standing.stands-moved, Standing.walked, Standing.Done, Presets.puts-by, Presets.stands-preset, Settled.goes, Settled.settled}
 use Rattle.accuracy.proofs.{Settled.list-is, Settled.input-is, Settled.input83-is, Cycles.cycle-by, Inputs.shown}
 
-module _ (s : State) (p : ℕ) (g : ℤ) (lim : Limits (s .axis)) (k : Keeps s p g) (m : ℕ → ℤ) where
+module _ (s : State) (p : ℕ) (g : ℤ) (limits : Within s) (k : Keeps s p g) (m : ℕ → ℤ) where
+  abbrev lim : Limits (s .axis)
+  lim = limits .axis
+
   abbrev d : Device
   d = deviceOf (s .axis)
 
@@ -48,14 +51,14 @@ module _ (s : State) (p : ℕ) (g : ℤ) (lim : Limits (s .axis)) (k : Keeps s p
   by-number c (suc n) e h = record { stands = record { device = refl; ledger = refl; kept = k }; puts = tt }
 
   pub done : (c : Call) → Supposed d (l .last) (deed d l c .numbers) m → Done s l m (deed d l c) (yields s c)
-  done c h = rw (settled s p g lim c) (by-number c (refusalBy d l c) refl h)
+  done c h = rw (settled s p g limits c) (by-number c (refusalBy d l c) refl h)
 
   -- ---- the lent buffers
   entries-by : (raws positions : List ℕ) (n : ℕ) → refusalBy d l (batching raws positions) ≡ n
       → Supposed d (l .last) (answer (λ (i : ℕ). moves l []) (moves l raws) n .numbers) m
       → Entries d l (answer (λ (i : ℕ). moves l []) (moves l raws) n .numbers) m (batchList (s .axis) raws positions)
   unfolding Entries
-  entries-by raws positions zero e h = rw (list-is s p g lim raws positions e) (batch-done raws positions e h .1)
+  entries-by raws positions zero e h = rw (list-is s p g limits raws positions e) (batch-done raws positions e h .1)
   entries-by raws positions (suc n) e h = tt
 
   -- in the input of a cycle, by the state after it
@@ -63,7 +66,7 @@ module _ (s : State) (p : ℕ) (g : ℤ) (lim : Limits (s .axis)) (k : Keeps s p
       Shown d (noted l (deed d l c) m (positionOf (b .axis))) (inputOf (b .link) (b .axis) output ++ more)
   shows c h output more =
       let t = done c h .stands in
-      rw (t .device, t .ledger) at (shown (yields s c) _ _ (call-kept s c lim) (t .kept) output more)
+      rw (t .device, t .ledger) at (shown (yields s c) _ _ (call-kept s c limits .axis) (t .kept) output more)
 
   pub lent : (c : Call) → Supposed d (l .last) (deed d l c .numbers) m
       → Lent d l c m (noted l (deed d l c) m (positionOf (yields s c .axis))) (lentBy s c)
@@ -73,6 +76,6 @@ module _ (s : State) (p : ℕ) (g : ℤ) (lim : Limits (s .axis)) (k : Keeps s p
   lent (presetting v relative) h = tt
   lent (storing v) h = tt
   lent (cycling raw output input) h =
-      λ e. rw (input-is s p g lim raw output input e) (rw append-nil at (shows (cycling raw output input) h output []))
+      λ e. rw (input-is s p g limits raw output input e) (rw append-nil at (shows (cycling raw output input) h output []))
   lent (measuring raw elapsed output input) h =
-      λ e. rw (input83-is s p g lim raw elapsed output input e) (shows (measuring raw elapsed output input) h output _)
+      λ e. rw (input83-is s p g limits raw elapsed output input e) (shows (measuring raw elapsed output input) h output _)

@@ -8,7 +8,7 @@ use Rattle.sensor.specs.{stepRefusal}
 use Rattle.axis_shaft.specs.{inside, oriented, started, difference, shorter, moveOf, moveRefusal, movedTo, unshifted, positionAt, shaftRefusal}
 use Rattle.axis.specs.{rulesOn, acceptable, axisRefusal, unshiftedOf, positionOf, startRefusal, start, atRaw, readRawRefusal, readRaw}
 use Rattle.axis_velocity.specs.{factorOf, rateOf}
-use Rattle.cyclic_link.specs.{Class4.made, Class4.link, held, zsw}
+use Rattle.cyclic_link.specs.{lifeOf, Class4.made, Class4.link, code, zsw, linkRefusal, within}
 use Rattle.cyclic.specs.{faultyAt, takenAt, counted, Class4.axis, Class4.input, linkAfter, axisAfter, inputOf, nistB, input83, refusal83, cycle83Refusal}
 use Rattle.cyclic.specs.{cycle83Input}
 use Rattle.accuracy.specs.{First, firstReading, Call, measuring, Device, startBy, deed, Program, Supposed, withReadings, Accurate, Claim.Claim, shiftsOctets, device4, opened}
@@ -37,11 +37,11 @@ unfolding Supposed refusal83 moveRefusal difference oriented _modulo_ rulesOf
 stands-still = (record { small = omega arith; times = pos 0; same = refl }, tt)
 
 shows : shiftsOctets .lent (first shiftsOctets) measures ≡ o 0 0 0 0 ++ o 0x02 0x00 0x20 0x00 ++ o 0 0 0 1 ++ o 0 0 0 1
-unfolding _modulo_ clamp bigEndian octets inRange complement plateRefusal fieldsRefusal refusalOn rulesOf rulesFit stepRefusal inside oriented started difference shorter moveOf moveRefusal movedTo unshifted positionAt shaftRefusal rulesOn acceptable axisRefusal unshiftedOf positionOf startRefusal start atRaw readRawRefusal readRaw factorOf rateOf made link held zsw faultyAt takenAt counted axis input linkAfter axisAfter inputOf nistB input83 refusal83 cycle83Refusal cycle83Input
+unfolding _modulo_ clamp bigEndian octets inRange complement plateRefusal fieldsRefusal refusalOn rulesOf rulesFit stepRefusal inside oriented started difference shorter moveOf moveRefusal movedTo unshifted positionAt shaftRefusal rulesOn acceptable axisRefusal unshiftedOf positionOf startRefusal start atRaw readRawRefusal readRaw factorOf rateOf made link lifeOf code zsw linkRefusal within faultyAt takenAt counted axis input linkAfter axisAfter inputOf nistB input83 refusal83 cycle83Refusal cycle83Input
 shows = refl
 
 read-there : (p : Program) → Claim p → p .lent (first p) measures ≡ o 0 0 0 0 ++ o 0x02 0x00 0x20 0x00 ++ o 0 0 0 1 ++ o 0 0 0 1 → ⊥
-unfolding Accurate withReadings refusal83 bigEndian counted held moveRefusal difference oriented _modulo_ rulesOf
+unfolding Accurate withReadings refusal83 bigEndian counted lifeOf code moveRefusal difference oriented _modulo_ rulesOf
 read-there p h e =
     let t = h device there started-there (event measures (pos 0) ∷ []) .1 stands-still .1 in
     let a = told device _ 0x02002000 ((rw e at t) refl .xist1 refl refl) in

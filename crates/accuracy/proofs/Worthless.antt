@@ -12,7 +12,7 @@ use Rattle.axis_offset.specs.{valueRefusal}
 use Rattle.axis.specs.{rulesOn, acceptable, axisRefusal, unshiftedOf, positionOf, reported, startRefusal, start, atRaw, readRawRefusal, readRaw, presetRefusal}
 use Rattle.axis.specs.{asked, presetted, preset}
 use Rattle.axis_batch.specs.{firstRefusal, positionsOf, batchRefusal, batchList}
-use Rattle.cyclic_link.specs.{Class2.made, Class2.link}
+use Rattle.cyclic_link.specs.{lifeOf, Class2.made, Class2.link, linkRefusal, within}
 use Rattle.cyclic.specs.{faultyAt, takenAt, Class2.axis, Class2.input, lengthRefusal, cycleRefusal, linkAfter, axisAfter, inputOf, cycle, cycleInput}
 use Rattle.accuracy.specs.{Call, rawReading, batching, presetting, cycling, force, deed, withReadings, Program, Supposed, off, Entries, readSingly, Accurate}
 use Rattle.accuracy.specs.{Claim.Claim, library, at, always0, turnsAway, claimsHalfRange, ignoresReadings, ignoresPresets, copiesFirst, scalesAfresh, wrapsAtC}
@@ -47,7 +47,7 @@ reports : (then turnsAway (rawReading 4) ≡ at 1 1)
     × (twice forgetsDue (asks 28 7) (asks 28 0) ≡ at 1 1)
     × (copiesFirst .lent (begun copiesFirst) pass ≡ 3 ∷ 3 ∷ [])
     × (then library (rawReading 3) ≡ at 2 2)
-unfolding _modulo_ inRange bigEndian fieldsRefusal refusalOn plateRefusal rulesOf rulesFit inside oriented started difference shorter moveOf moveRefusal movedTo unshifted positionAt shaftRefusal rulesOn acceptable axisRefusal unshiftedOf positionOf reported startRefusal start stepRefusal atRaw readRawRefusal readRaw valueRefusal presetRefusal asked presetted preset faultyAt takenAt made axis lengthRefusal cycleRefusal axisAfter inputOf cycle cycleInput linkAfter link input octets firstRefusal positionsOf batchRefusal batchList
+unfolding _modulo_ inRange bigEndian fieldsRefusal refusalOn plateRefusal rulesOf rulesFit inside oriented started difference shorter moveOf moveRefusal movedTo unshifted positionAt shaftRefusal rulesOn acceptable axisRefusal unshiftedOf positionOf reported startRefusal start stepRefusal atRaw readRawRefusal readRaw valueRefusal presetRefusal asked presetted preset faultyAt takenAt made axis lengthRefusal cycleRefusal axisAfter inputOf cycle cycleInput linkAfter link input octets firstRefusal positionsOf batchRefusal batchList lifeOf linkRefusal within
 reports = (refl, refl, refl, refl, refl, refl, refl, refl, refl, refl, refl, refl, refl, refl, refl, refl, refl, refl)
 
 -- the true steps are as supposed

@@ -7,14 +7,14 @@
 -- It claims of every position, at the moment when it is reported: the position lies less than one unit from p + g × M / R, counted around the total
 -- range L. Here p is the position just after the last preset, and g the true steps since then; before any preset p is 0, and g counts from the sensor's
 -- zero. And each preset puts the position where rule 6 says. Presets are made by preset calls and by cycles with the class on. A cycle of class 4 makes one
--- on a rise of bit 12. In class 2 (request 2) a rise of bit 31 makes one due; it is made in the first cycle, that of the rise included, with the bit still
+-- on a rise of bit 12 while no error is held, neither 0001h nor 0F02h (request 3). In class 2 (request 2) a rise of bit 31 makes one due; it is made in the first cycle, that of the rise included, with the bit still
 -- 1 that is not faulty and has a value below L.
 --
 -- The claim is of any program, and sees only the positions that the program reports. The ledger that keeps p and g (Ledger.antt) gets the calls and the
 -- true steps. It settles by itself, from its own link state, which presets cycles make. It asks the program for one thing, the position just after a preset,
 -- which rule 6 settles. So the programs that document 01 would send back do not meet the claim. A program that always shows 0, turns calls away, claims half
 -- range or ignores readings breaks it as soon as the shaft has moved by a unit. A program that ignores presets breaks rule 6, and so does one that forgets
--- that a preset is due. A program that copies the first position of a batch on breaks the claim at the second entry, one that scales the raw number afresh
+-- that a preset is due. One that forgets the master's sign of life makes a preset while 0F02h should be held. A program that copies the first position of a batch on breaks the claim at the second entry, one that scales the raw number afresh
 -- breaks it when the sensor begins again, and one that adds rounded moves when the parts cut off come to a unit. Worthless.antt in proofs/ refutes each of
 -- these, and Accuracy.antt proves the claim of ours.
 use Rattle.integer.specs.Base.{_≡_, true, false, List, [], _∷_, ℕ, suc, _*_, _<_, ℤ, pos, negℤ, natAbs, _+ℤ_, _-ℤ_, _*ℤ_, _<ℤ_}

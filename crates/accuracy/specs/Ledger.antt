@@ -8,7 +8,7 @@ use Rattle.axis_shaft.specs.{oriented, moveRefusal, refusalIn}
 use Rattle.axis_offset.specs.{valueRefusal}
 use Rattle.axis.specs.{startRefusal, startRawRefusal}
 use Rattle.cyclic_link.specs.{Link, quiet}
-use Rattle.cyclic.specs.{wordOf, counted, class4, lengthRefusal, linkAfter, refusal83}
+use Rattle.cyclic.specs.{wordOf, counted, heardIn, stoppedIn, class4, life, lengthRefusal, linkAfter, refusal83}
 use Rattle.accuracy.specs.Calls.{First, firstReading, firstNumber, Call, reading, rawReading, batching, presetting, storing, cycling, measuring}
 use Rattle.cyclic_link.specs.Class2 as Class2
 use Rattle.cyclic_link.specs.Class4 as Class4
@@ -43,8 +43,8 @@ firstRaw d (firstNumber raw) = raw
 abbrev pub opened : Device → ℕ → Ledger
 opened d raw = record { base = 0; travel = pos (oriented (force d) raw); last = raw; stored = pos 0; link = quiet }
 
--- ---- by the table: the number by which a call is refused, 0 where it is taken. There is no row 16: the axis was started, and nothing but its own
--- calls writes it
+-- ---- by the table: the number by which a call is refused, 0 where it is taken. There is no row 16: the axis was started, its link was 0 then, and
+-- nothing but its own calls writes the two
 abbrev pub refusalBy : Device → Ledger → Call → ℕ
 refusalBy d l (reading step turn) =
     stepRefusal (d .plate) step turn before moveRefusal (force d) (l .last) (rawOf (d .plate) step turn)
@@ -80,15 +80,19 @@ abbrev pub preset2 : Device → Ledger → ℕ → Preset
 preset2 d l word =
     cond (due2 (l .link) word && force d .enabled && ltb (Class2.value word) (force d .span .0)) (made (pos (Class2.value word)) false) none
 
--- in class 4 of the held preset value, on a rise of bit 12 while no error is held
+-- in class 4 of the held preset value, on a rise of bit 12 while no error is held, neither 0001h nor 0F02h (request 3): so the ledger counts the master's sign of
+-- life, and asks whether the counter then stands at its stop
 abbrev pub rises : Device → Ledger → Bool → Bool
 rises d l bit = not (l .link .requested) && bit && force d .enabled
 
-abbrev pub preset4 : Device → Ledger → ℕ → Preset
-preset4 d l word = cond (rises d l (Class4.asked word) && not (Class4.held (l .link) false word)) (made (l .stored) (Class4.relative word)) none
+abbrev pub preset4 : Device → Ledger → List ℕ → Preset
+preset4 d l output =
+    let word = counted output in
+    let w = life (d .parameters) in
+    cond (rises d l (Class4.asked word) && not (Class4.held (heardIn w (l .link) output) (stoppedIn w (l .link) output) false word)) (made (l .stored) (Class4.relative word)) none
 
 abbrev pub cyclePreset : Device → Ledger → List ℕ → Preset
-cyclePreset d l output = cond (class4 (d .parameters)) (preset4 d l (counted output)) (preset2 d l (wordOf output))
+cyclePreset d l output = cond (class4 (d .parameters)) (preset4 d l output) (preset2 d l (wordOf output))
 
 -- the preset is due no more once made or once the bit is 0; class 4 leaves it as it was. The ledger says this itself, since it decides which presets are
 -- made; the rest of the link goes by the rules of the cycle
@@ -101,7 +105,17 @@ dueAfter class k output o = cond class (k .due) (due2 k (wordOf output) && unmad
 
 abbrev pub withDue : Link → Bool → Link
 withDue k due =
-    record { faulty = k .faulty; requested = k .requested; error = k .error; acknowledged = k .acknowledged; executed = k .executed; due = due }
+    record {
+      faulty = k .faulty;
+      requested = k .requested;
+      error = k .error;
+      acknowledged = k .acknowledged;
+      executed = k .executed;
+      due = due;
+      counter = k .counter;
+      expected = k .expected;
+      code = k .code;
+    }
 
 -- a cycle, of telegram 83 as of telegram 81 and of class 2, by the number that would refuse its raw number: a faulty one accepts none and makes no preset
 abbrev pub exchangedBy : Device → Ledger → ℕ → List ℕ → ℕ → Deed

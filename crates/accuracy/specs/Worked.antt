@@ -1,16 +1,17 @@
--- Worked runs that the claim speaks of: calls of every kind, refused ones, wraps, presets and faults among them, for class 2, for class 4, and for class
--- 4 under block bit 2. Beside each call stands what was worked out from document 01 by hand: the position after it, p and g, and the lent list or octets.
+-- Worked runs that the claim speaks of: calls of every kind, refused ones, wraps, presets and faults among them, for class 2, for class 4, for class 4
+-- under block bit 2, and for class 4 with a sign of life. Beside each call stands what was worked out from document 01 by hand: the position after it, p and g, and the lent list or octets.
 use Rattle.integer.specs.Base.{true, false, List, [], _∷_, _++_, ℕ, zero, suc, ℤ, pos, negsuc}
 use Rattle.encoder.specs.{plate, Class2, Class4}
 use Rattle.accuracy.specs.{Calls.firstReading, Calls.Call, Calls.reading, Calls.rawReading, Calls.batching, Calls.presetting, Calls.storing, Calls.cycling, Calls.measuring}
 use Rattle.accuracy.specs.{Ledger.Device, Ledger.Ledger, Ledger.deed, Ledger.noted, Claim.Event, Claim.number, Run.State, Ours.ours}
 
--- R = 10, T = 3, so C = 30; M = 3 and L = 7. Class 2, the axis of document 01's listing, counts with the raw number, class 4 against it
+-- R = 10, T = 3, so C = 30; M = 3 and L = 7. Class 2, the axis of document 01's listing, counts with the raw number, class 4 against it. The
+-- sign-of-life limit is 1, so that one failure reaches the stop
 abbrev pub listing : Device
 listing = record { plate = plate; parameters = Class2 0x0a (record { 0 = 3 }) (record { 0 = 7 }) }
 
 abbrev pub device4 : ℕ → Device
-device4 operating = record { plate = plate; parameters = Class4 operating (record { 0 = 3 }) (record { 0 = 7 }) 0 0 }
+device4 operating = record { plate = plate; parameters = Class4 operating (record { 0 = 3 }) (record { 0 = 7 }) 1 0 }
 
 pub record Line : Type 0 where
   pub event : Event
@@ -35,6 +36,10 @@ o a b c d = a ∷ b ∷ c ∷ d ∷ []
 
 abbrev pub o12 : ℕ → ℕ → ℕ → ℕ → List ℕ
 o12 high low first second = 0x02 ∷ 0x00 ∷ high ∷ low ∷ 0 ∷ 0 ∷ 0 ∷ first ∷ 0 ∷ 0 ∷ 0 ∷ second ∷ []
+
+-- with 0F02h in G1_XIST2
+abbrev pub fault : ℕ → ℕ → ℕ → List ℕ
+fault high low first = 0x02 ∷ 0x00 ∷ high ∷ low ∷ 0 ∷ 0 ∷ 0 ∷ first ∷ 0 ∷ 0 ∷ 0x0f ∷ 0x02 ∷ []
 
 -- of telegram 83, with the octets of NIST_B
 abbrev pub o16 : ℕ → ℕ → ℕ → ℕ → List ℕ → List ℕ
@@ -110,6 +115,24 @@ run4u =
     ∷ line (cycling 30 (o 4 0 0 0) (o12 0 0 0 0)) [] 5 5 (pos 0) (o12 0x80 0x00 3 1)
     -- and so in telegram 83, where 1 × 3 × 1000 / (10 × 10) is 30
     ∷ line (measuring 25 10 (o 4 0 0 0) (o16 0 0 0 0 (o 0 0 0 0))) (pos 1 ∷ []) 5 5 (pos 1) (o16 0x80 0x00 3 1 (o 0 0 0 30))
+    ∷ []
+
+-- block bit 5 at 0 (request 3): the first figure of the output is the sign of life
+abbrev pub run4l : List Line
+run4l =
+    line (storing (pos 2)) [] 1 0 (pos 28) []
+    -- 1 is the start; 2 is right, and the preset is made
+    ∷ line (cycling 2 (o 0x14 0 0 0) (o12 0 0 0 0)) (pos 0 ∷ []) 1 0 (pos 28) (o12 0x20 0x00 1 1)
+    ∷ line (cycling 2 (o 0x24 0 0x10 0) (o12 0 0 0 0)) (pos 0 ∷ []) 2 2 (pos 0) (o12 0x30 0x00 2 2)
+    -- 5 is wrong: 0F02h is held and stands in G1_XIST2; 9 is wrong too, and the held error passes over a rise
+    ∷ line (cycling 2 (o 0x54 0 0 0) (o12 0 0 0 0)) (pos 0 ∷ []) 2 2 (pos 0) (fault 0x80 0x00 2)
+    ∷ line (cycling 1 (o 0x94 0 0x10 0) (o12 0 0 0 0)) (pos 1 ∷ []) 2 2 (pos 1) (fault 0x80 0x00 2)
+    -- 10 is right and leaves the stop; acknowledged; with 11 the error is gone, and the preset of the same cycle is made
+    ∷ line (cycling 1 (o 0xa4 0 0x80 0) (o12 0 0 0 0)) (pos 0 ∷ []) 2 2 (pos 1) (fault 0x88 0x00 2)
+    ∷ line (cycling 26 (o 0xb4 0 0x10 0) (o12 0 0 0 0)) (pos 5 ∷ []) 2 2 (pos 0) (o12 0x30 0x00 2 2)
+    -- 0 is wrong, and the cycle is faulty: 0001h comes first; 1 is expected after a 0, here in telegram 83, where 1 × 3 × 1000 / (10 × 10) is 30
+    ∷ line (cycling 30 (o 0x04 0 0 0) (o12 0 0 0 0)) [] 2 2 (pos 0) (o12 0x80 0x00 2 1)
+    ∷ line (measuring 25 10 (o 0x14 0 0x80 0) (o16 0 0 0 0 (o 0 0 0 0))) (pos 1 ∷ []) 2 2 (pos 1) (o16 0x88 0x00 2 1 (o 0 0 0 30))
     ∷ []
 
 -- ---- the same, from the definitions

@@ -1,10 +1,10 @@
 -- Programs that document 01 would send back ("Programs we would send back", "Traps on the bench"), each as ours but for one thing. Each breaks the
--- claim: proofs/Worthless.antt, and for the octets of telegram 83 proofs/Telegram83.antt.
+-- claim: proofs/Worthless.antt, for the octets of telegram 83 proofs/Telegram83.antt, and for the sign of life proofs/SignOfLife.antt.
 use Rattle.integer.specs.Base.{Bool, false, cond, List, _++_, ℕ, _*_, _/_, _%_, eqb, pos, _+ℤ_, _-ℤ_, _*ℤ_, length, getD, take, drop, replicate, quotZ}
 use Rattle.integer.specs.{_modulo_}
 use Rattle.axis_shaft.specs.{oriented, moveOf, Reported, At}
 use Rattle.axis.specs.{Axis, rulesOn, unshiftedOf, positionOf, reported, withShaft}
-use Rattle.cyclic_link.specs.{Link, quiet}
+use Rattle.cyclic_link.specs.{Link, counting, quiet}
 use Rattle.cyclic.specs.{faultyAt}
 use Rattle.accuracy.specs.{Calls.Call, Calls.reading, Calls.rawReading, Calls.batching, Calls.presetting, Calls.storing, Calls.cycling, Calls.measuring, Ledger.withDue, Claim.Program}
 use Rattle.accuracy.specs.{Run.State, Run.begin, Run.yields, Run.lentBy}
@@ -104,6 +104,10 @@ forgetsLink = keeps (λ k. quiet)
 -- makes a preset in the cycle of the rise or never, as before request 2
 abbrev pub forgetsDue : Program
 forgetsDue = keeps (λ k. withDue k false)
+
+-- forgets the sign of life from cycle to cycle, and so never holds 0F02h (request 3)
+abbrev pub forgetsLife : Program
+forgetsLife = keeps (λ k. counting k 0 0)
 
 -- the input octets are those of a cycle with a fresh link
 abbrev pub showsFresh : Program
