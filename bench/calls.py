@@ -19,6 +19,8 @@ LINES = 1000
 # R = T = 4096, M = 1000, L = 400,000; the axis stands at raw number 204,800, and moves by 37 steps a line
 CLASS2 = ["axis  2  4096 4096 0000 0a 1000 400000", "first    0 50"]
 CLASS4 = ["axis  4  4096 4096 0000 2a 1000 400000 0 0", "first    0 50", "hold     1234"]
+# the same with block bit 5 at 0, and 1 for the sign-of-life limit
+LIFE = ["axis  4  4096 4096 0000 0a 1000 400000 1 0", "first    0 50", "hold     1234"]
 
 
 def raw(i):
@@ -32,6 +34,8 @@ KINDS = {
     "class 4 cycle": (CLASS4, lambda i: f"exchange 12 {raw(i)} 04 00 00 00"),
     "class 4 cycle, preset every other": (CLASS4, lambda i: f"exchange 12 {raw(i)} 04 00 {'10' if i % 2 else '00'} 00"),
     "class 4 cycle, faulty": (CLASS4, lambda i: "exchange 12 16777216 04 00 00 00"),
+    "class 4 cycle, sign of life right": (LIFE, lambda i: f"exchange 12 {raw(i)} {i % 15 + 1:x}4 00 00 00"),
+    "class 4 cycle, sign of life failing": (LIFE, lambda i: f"exchange 12 {raw(i)} 34 00 00 00"),
     "telegram 83": (CLASS4, lambda i: f"measured 16 {raw(i)} 10 04 00 00 00"),
     "telegram 83, preset every other": (CLASS4, lambda i: f"measured 16 {raw(i)} 10 04 00 {'10' if i % 2 else '00'} 00"),
     "telegram 83, faulty": (CLASS4, lambda i: "measured 16 16777216 10 04 00 00 00"),

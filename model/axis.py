@@ -1,18 +1,22 @@
 #!/usr/bin/env python3
-"""An axis by document 01, with No. 1 and 2 of document 02, apart from the Rattle code: whole numbers of any size, and the paper's own words for
+"""An axis by document 01, with No. 1 to 3 of document 02, apart from the Rattle code: whole numbers of any size, and the paper's own words for
 "modulo" and "rounded down" (Python's % and // are both rounded towards minus infinity).
 
     python3 model/axis.py            prints the calculated vectors, each call with its answer under it
-    python3 model/axis.py --check    compares them with the last part of crates/vectors/stdout, and stdin with stdout without the answers
+    python3 model/axis.py --check    compares them with the last part of crates/vectors/stdout, the answers of its first part, by hand, with those
+                                     of the model, and stdin with stdout without the answers
 
-The calls are drawn with fixed seeds, so that every run prints the same. The last section but one repeats cycles that stand in crates/vectors/stdout.
+The calls are drawn with fixed seeds, so that every run prints the same. The last section but two repeats cycles that stand in crates/vectors/stdout,
+but none of those by hand of document 02, No. 3, nor of what follows them.
 """
 import itertools
 import os
 import random
 import sys
 
-NO_AXIS, BUFFER, ELAPSED, STEP, TURN, HALF, OFF, PRESET = 16, 13, 14, 8, 9, 10, 12, 11
+LENGTH, IDENT, RESERVED, UNITS, TOTAL, SPEED, PLATE = 1, 2, 3, 4, 5, 6, 7
+NO_AXIS, BUFFER, ELAPSED, STEP, TURN, HALF, OFF, PRESET, LIMIT = 16, 13, 14, 8, 9, 10, 12, 11, 17
+FAULT, LIFE = 0x0001, 0x0F02  # the codes of an error
 
 
 class Refused(Exception):
@@ -25,16 +29,19 @@ def cut(a, b):
 
 
 class Link:
-    """The link record, all 0 at the start. A preset is due in class 2 alone, and class 4 leaves `due` as it was (document 02, No. 2)."""
+    """The link record, all 0 at the start. A preset is due in class 2 alone, and class 4 leaves `due` as it was (document 02, No. 2).
+    Counter, expected value and code change in class 4 alone (document 02, No. 3)."""
 
     def __init__(self):
         self.bring(0, 0, 0, 0, 0)
 
-    def bring(self, faulty, bit, error, seen, executed, due=0):
+    def bring(self, faulty, bit, error, seen, executed, due=0, counter=0, expected=0, code=0):
         self.faulty, self.bit, self.error, self.seen, self.executed, self.due = faulty, bit, error, seen, executed, due
+        self.counter, self.expected, self.code = counter, expected, code
 
     def shown(self):
-        return f"  link {self.faulty} {self.bit} {self.error} {self.seen} {self.executed} {self.due}"
+        bits = f"{self.faulty} {self.bit} {self.error} {self.seen} {self.executed} {self.due}"
+        return f"  link {bits} {self.counter} {self.expected} {self.code:04x}"
 
 
 class Axis:
@@ -48,21 +55,38 @@ class Axis:
         self.software, self.serial = [0] * 2, [0] * 10
         self.link = Link()
 
-    # "Class 2 telegram", "Class 4 block" and rows 3 to 7
+    # "Class 2 telegram", "Class 4 block" and rows 3 to 7; row 17 by document 02, No. 3
     def parameters(self):
-        bit = lambda n: self.octet >> n & 1
-        if not (2 <= self.r <= 65536 and 1 <= self.t <= 32768):
-            return 7
-        if bit(6) or bit(7) or (not bit(5) if self.class4 else bit(4) or bit(5)):
-            return 3
-        if bit(1) and bit(3):
-            if self.units == 0 or self.units > self.r:
-                return 4
-            if self.total < self.units or self.total > self.units * self.t:
-                return 5
-        if self.class4 and self.speed > 3:
-            return 6
-        return 0
+        return self.plate() or self.reserved() or self.scale() or self.speed_unit() or self.life_limit()
+
+    def plate(self):
+        return 0 if 2 <= self.r <= 65536 and 1 <= self.t <= 32768 else PLATE
+
+    def reserved(self):
+        """Bits 6 and 7 of class 4, bits 4 to 7 of class 2: bit 5 of class 4 may be 0 (document 02, No. 3)."""
+        return RESERVED if self.octet & (0xC0 if self.class4 else 0xF0) else 0
+
+    def scale(self):
+        if not self.scaling:
+            return 0
+        if self.units == 0 or self.units > self.r:
+            return UNITS
+        return TOTAL if self.total < self.units or self.total > self.units * self.t else 0
+
+    def speed_unit(self):
+        return SPEED if self.class4 and self.speed > 3 else 0
+
+    def life_limit(self):
+        return LIMIT if self.lives and self.life == 0 else 0
+
+    @property
+    def lives(self):
+        """With the sign of life: class 4, bit 5 at 0."""
+        return self.class4 and self.octet >> 5 & 1 == 0
+
+    @property
+    def stop(self):
+        return 10 * self.life
 
     @property
     def c(self):
@@ -84,10 +108,14 @@ class Axis:
     def span(self):
         return self.total if self.scaling else self.c
 
+    @property
+    def obeyed(self):
+        """The code sequence counter-clockwise, and in force."""
+        return self.octet & 1 == 1 and (self.on or not self.class4)
+
     # "The axis", rule by rule
     def oriented(self, raw):
-        obeyed = self.octet & 1 == 1 and (self.on or not self.class4)
-        return (self.c - raw) % self.c if obeyed else raw
+        return (self.c - raw) % self.c if self.obeyed else raw
 
     def unshifted(self):
         return self.place * self.m // self.r % self.span
@@ -105,6 +133,24 @@ class Axis:
 
     def standing(self):
         if not self.acceptable():
+            raise Refused(NO_AXIS)
+
+    # document 02, No. 3: the limits of the link
+    def link_acceptable(self):
+        return self.counter_acceptable() and self.link.expected <= 15 and self.code_acceptable()
+
+    def counter_acceptable(self):
+        return self.link.counter <= (self.stop if self.lives else 0)
+
+    def code_acceptable(self):
+        if self.link.error:
+            return self.link.code == FAULT or (self.link.code == LIFE and self.lives)
+        return self.link.code == 0
+
+    def linked(self):
+        """16 of the axis and of the link that is brought."""
+        self.standing()
+        if not self.link_acceptable():
             raise Refused(NO_AXIS)
 
     def raw(self, s, t):
@@ -197,7 +243,7 @@ class Axis:
 
     def cycle(self, raw, out, given):
         """The input octets."""
-        self.standing()
+        self.linked()
         if len(out) != 4 or len(given) != (12 if self.class4 else 4):
             raise Refused(BUFFER)
         self.link.faulty = self.take(raw)
@@ -222,10 +268,9 @@ class Axis:
         if not stw2 & 0x0400:
             stw = 0
         ack, park, asks, relative = (1 if stw & 2**n else 0 for n in (15, 14, 12, 11))
-        if k.faulty and not park:
-            k.error = 1
-        if k.seen and not ack:
-            k.error = 1 if k.error and k.faulty else 0
+        self.sign_of_life(stw2 >> 12)
+        self.arise(park)
+        self.acknowledge(ack)
         k.seen = 1 if k.error and ack else 0
         if asks and not k.bit and self.on and not k.error and not k.faulty:
             self.set_preset(self.held, relative == 1)
@@ -235,8 +280,49 @@ class Axis:
         k.bit = asks
         zsw = 2**15 * k.error + 2**14 * park + 2**13 * (1 - k.error) + 2**12 * k.executed + 2**11 * k.seen
         first = self.unshifted() if self.octet & 4 else self.position()
-        second = 1 if k.error else self.position()
+        second = k.code if k.error else self.position()
         return b"".join(n.to_bytes(size, "big") for n, size in ((0x0200, 2), (zsw, 2), (first, 4), (second, 4)))
+
+    # document 02, No. 3: the sign of life, and errors with a code
+    def sign_of_life(self, v):
+        """The value v of this cycle, on an axis with the sign of life."""
+        if self.lives:
+            self.count(v)
+            self.expect(v)
+
+    def count(self, v):
+        k = self.link
+        if k.expected == 0:
+            return  # no start yet: up to it, and with it, nothing is counted
+        if v == k.expected:
+            k.counter = max(0, k.counter - 1)
+        else:
+            k.counter = min(self.stop, k.counter + 10)
+
+    def expect(self, v):
+        """15 is followed by 1; a 0 is followed by 1 once started, and is no start."""
+        k = self.link
+        if v:
+            k.expected = v % 15 + 1
+        elif k.expected:
+            k.expected = 1
+
+    def stopped(self):
+        """The counter, once this cycle is counted, at its stop."""
+        return self.lives and self.link.counter == self.stop
+
+    def arise(self, park):
+        """0001h comes before 0F02h; an error already held keeps its code."""
+        k = self.link
+        code = FAULT if k.faulty and not park else LIFE if self.stopped() else 0
+        if code and not k.error:
+            k.error, k.code = 1, code
+
+    def acknowledge(self, ack):
+        """Cleared only when neither cause is present, the cycle parked or not."""
+        k = self.link
+        if k.seen and not ack and not k.faulty and not self.stopped():
+            k.error = k.code = 0
 
     # ---- document 02, No. 1
     def nist_b(self, raw, e):
@@ -248,7 +334,7 @@ class Axis:
 
     def cycle83(self, raw, e, out, given):
         """The input octets of telegram 83: those of telegram 81, then NIST_B."""
-        self.standing()
+        self.linked()
         if not self.class4 or len(out) != 4 or len(given) != 16:
             raise Refused(BUFFER)
         if e == 0:
@@ -258,7 +344,7 @@ class Axis:
 
     # ---- "Diagnosis": octet 7 stands first
     def diagnosis(self, given):
-        self.standing()
+        self.linked()
         size = 57 if self.on else 10
         if len(given) != size:
             raise Refused(BUFFER)
@@ -287,8 +373,53 @@ class Axis:
         return bytes(octets[n] for n in range(7, 7 + size))
 
 
+# ---- telegram, block and writer
+def number_of(octets):
+    return int.from_bytes(octets, "big")
+
+
+def turn_away(n):
+    if n:
+        raise Refused(n)
+
+
+def read_telegram(r, t, ident, octets):
+    """The axis of a class 2 telegram: 7, 1, 2, 3, 4, 5."""
+    turn_away(Axis(False, r, t, 0, 0, 0).plate())
+    if len(octets) != 17:
+        raise Refused(LENGTH)
+    if number_of(octets[4:6]) != ident:
+        raise Refused(IDENT)
+    a = Axis(False, r, t, octets[8], number_of(octets[9:13]), number_of(octets[13:17]))
+    turn_away(a.parameters())
+    return a
+
+
+def read_block(r, t, octets):
+    """The axis of a class 4 block: 7, 1, 3, 4, 5, 6, 17."""
+    turn_away(Axis(True, r, t, 0, 0, 0).plate())
+    if len(octets) != 11:
+        raise Refused(LENGTH)
+    a = Axis(True, r, t, octets[0], number_of(octets[1:5]), number_of(octets[5:9]), octets[9], octets[10])
+    turn_away(a.parameters())
+    return a
+
+
+def written(a, ident, given):
+    """The octets of the writer: 7, 13, 3, 4, 5, 6, 17."""
+    turn_away(a.plate())
+    if len(given) != (11 if a.class4 else 17):
+        raise Refused(BUFFER)
+    turn_away(a.parameters())
+    fields = bytes([a.octet]) + a.units.to_bytes(4, "big") + a.total.to_bytes(4, "big")
+    if a.class4:
+        return fields + bytes([a.life, a.speed])
+    return given[:4] + ident.to_bytes(2, "big") + given[6:8] + fields
+
+
 # ---- the vectors
 CALCULATED = "# Calculated apart by model/axis.py: "  # begins each section that this script prints
+NOT_REPEATED = "# Document 02, No. 3: "  # begins the part by hand that `repeated` leaves out
 
 
 def axis_line(a):
@@ -321,6 +452,41 @@ def cycle_answer(a, cycle, given):
     except Refused as n:
         first = f"  refused {n}"
     return [first, a.link.shown(), lent(given)]
+
+
+def diagnosis_answer(a, given):
+    try:
+        given = a.diagnosis(given)
+        first = "  done"
+    except Refused as n:
+        first = f"  refused {n}"
+    return [first, lent(given)]
+
+
+def velocity_answer(a, s, t, e):
+    try:
+        return [f"  velocity {a.velocity(s, t, e)}"]
+    except Refused as n:
+        return [f"  refused {n}"]
+
+
+def read_answer(read):
+    """The lines under a telegram or a block."""
+    try:
+        a = read()
+    except Refused as n:
+        return [f"  refused {n}"]
+    turning = "ccw" if a.obeyed else "cw"
+    return [f"  M {a.m} L {a.span} {turning} {'on' if a.on else 'off'}"]
+
+
+def written_answer(a, ident, given):
+    try:
+        given = written(a, ident, given)
+        first = "  done"
+    except Refused as n:
+        first = f"  refused {n}"
+    return [first, lent(given)]
 
 
 class Script:
@@ -372,10 +538,7 @@ class Script:
             (s, t), e = self.step_turn(a), self.random.choice([0, 1, 1, 7, 100, 65535])
             self.lines.append(f"velocity {s} {t} {e}")
             self.calls += 1
-            try:
-                self.lines.append(f"  velocity {a.velocity(s, t, e)}")
-            except Refused as n:
-                self.lines.append(f"  refused {n}")
+            self.lines += velocity_answer(a, s, t, e)
             return
         self.lines.append(text)
         self.calls += 1
@@ -416,7 +579,9 @@ class Script:
 
     def measure(self, a):
         raw, out, given = self.brought(a, 16)
-        e = self.random.choice([0] + [1, 2, 7, 100, 1000] * 2 + [65535])
+        self.send83(a, raw, self.random.choice([0] + [1, 2, 7, 100, 1000] * 2 + [65535]), out, given)
+
+    def send83(self, a, raw, e, out, given):
         self.lines.append(" ".join(["measured", str(len(given)), str(raw), str(e)] + [f"{o:02x}" for o in out]))
         self.calls += 1
         self.cycles += 1
@@ -427,13 +592,7 @@ class Script:
         size = (57 if a.on else 10) + self.random.choice([0, 0, 0, 1, -1])
         self.lines.append(f"diagnose {size}")
         self.calls += 1
-        given = b"\xee" * size
-        try:
-            given = a.diagnosis(given)
-            self.lines.append("  done")
-        except Refused as n:
-            self.lines.append(f"  refused {n}")
-        self.lines.append(lent(given))
+        self.lines += diagnosis_answer(a, b"\xee" * size)
 
     def talk(self, a, cycles):
         """Cycles on one axis, with a held value, a diagnosis, a link or a record that is brought, and other calls between them."""
@@ -520,10 +679,16 @@ class Script:
         self.lines += answer(a, lambda: a.hold(v))
 
     def keep(self, a, figures=5):
-        """A link that is brought: no preset is due in one of five figures."""
+        """A link that is brought: no preset is due in one of five figures. An error has the code 0001h."""
         link = [self.random.randrange(2) for _ in range(figures)]
+        if link[2]:
+            link = (link + [0])[:6] + [0, 0, FAULT]
+        self.bring(a, link)
+
+    def bring(self, a, link):
+        """The line of a link, its ninth figure hexadecimal."""
         a.link.bring(*link)
-        self.lines.append(" ".join(["keep    "] + [str(n) for n in link]))
+        self.lines.append(" ".join(["keep    "] + [str(n) for n in link[:8]] + [f"{n:04x}" for n in link[8:]]))
 
     def given(self, a, pasts=(None, None, None, "place", "last", "offset", "preset", "held")):
         """A record that is brought: within its limits, or past one of them."""
@@ -538,6 +703,73 @@ class Script:
         elif past:
             setattr(a, past, self.random.choice([a.span, -a.span]))
         self.lines.append(f"given    {a.place} {a.last} {a.offset} {a.preset} {a.held}")
+
+    def life(self, a, cycles):
+        """Cycles of the sign of life on one axis by both telegrams, with links and records that are brought, held values and diagnoses between."""
+        self.begin(a)
+        for _ in range(cycles):
+            kind = self.random.random()
+            if kind < 0.10:
+                self.hold(a)
+            elif kind < 0.18:
+                self.keep_life(a)
+            elif kind < 0.21:
+                self.given(a)
+            elif kind < 0.26:
+                self.diagnose(a)
+            elif kind < (0.33 if a.lives else 0.55):
+                self.keep_past(a)
+            self.send_life(a)
+            if not a.acceptable():
+                self.given(a, [None])  # else the rest would be refused too
+            if not a.link_acceptable():
+                self.diagnose(a)
+                self.keep_life(a)
+
+    def send_life(self, a):
+        short = self.random.random() < 0.03
+        raw, out = self.third(a), self.living(a)
+        if a.class4 and self.random.random() < 0.4:
+            self.send83(a, raw, self.random.choice([0] + [1, 2, 10, 1000, 65535] * 3), out, b"\xee" * (16 - short))
+        else:
+            self.send(a, raw, out, b"\xee" * ((12 if a.class4 else 4) - short))
+
+    def living(self, a):
+        """Output octets: of class 4 the expected value mostly, and an acknowledge that goes up and down while an error is held."""
+        if not a.class4:
+            return self.staying(a)
+        pick = lambda p: self.random.random() < p
+        v = self.random.choice([max(1, a.link.expected)] * 6 + [0, 0, 15] + [self.random.randrange(16)] * 3)
+        ack = pick(0.25 if a.link.seen else 0.7 if a.link.error else 0.1)
+        stw2 = v % 16 * 2**12 + pick(0.85) * 2**10 + self.random.choice([0, 0, 0x0BFF])
+        stw = ack * 2**15 + pick(0.2) * 2**14 + pick(0.5) * 2**12 + pick(0.5) * 2**11
+        return stw2.to_bytes(2, "big") + stw.to_bytes(2, "big")
+
+    def within(self, a):
+        """A link within its limits on the axis: the nine figures."""
+        pick = lambda: self.random.randrange(2)
+        error = pick()
+        code = self.random.choice([FAULT, LIFE] if a.lives else [FAULT]) if error else 0
+        counter = self.random.choice([0, 1, a.stop - 10, a.stop - 9, a.stop - 1, a.stop, self.random.randrange(a.stop + 1)]) if a.lives else 0
+        return [pick(), pick(), error, pick(), pick(), pick(), counter, self.random.choice([0, 1, 15, self.random.randrange(16)]), code]
+
+    def keep_life(self, a):
+        self.bring(a, self.within(a))
+
+    def keep_past(self, a):
+        """A link past one of its limits."""
+        link = self.within(a)
+        n = self.random.choice([6, 7, 8, 8])
+        if n == 6:
+            limit = a.stop if a.lives else 0
+            link[6] = self.random.choice([limit + 1, limit + 256, limit + 65536, 2**32 - 1])
+        elif n == 7:
+            link[7] = self.random.choice([16, 17, 256, 65537, 2**32 - 1])
+        elif link[2]:
+            link[8] = self.random.choice([0, 2, 0x0F01, 0x0F03, 0x0100, 0x020F, 0xFFFF] + ([] if a.lives else [LIFE] * 4))
+        else:
+            link[8] = self.random.choice([FAULT, LIFE, 0xFFFF])
+        self.bring(a, link)
 
     def begin(self, a):
         self.lines.append(axis_line(a))
@@ -594,9 +826,23 @@ def blocks(lines):
 
 
 def axis_of(line):
-    """The axis of a line `axis  4 ..`."""
-    r, t, _, octet, units, total, life, speed = line.split()[2:]
-    return Axis(True, int(r), int(t), int(octet, 16), int(units), int(total), int(life), int(speed))
+    """The axis of a line `axis  2 ..` or `axis  4 ..`."""
+    class_, r, t, _, octet, units, total, *more = line.split()[1:]
+    return Axis(class_ == "4", int(r), int(t), int(octet, 16), int(units), int(total), *(int(w) for w in more))
+
+
+def octets_of(words):
+    return bytes(int(w, 16) for w in words)
+
+
+def parameters_answer(line):
+    """The lines under `telegram`, `block` or `write`."""
+    kind, *words = line.split()
+    if kind == "write":
+        class_, r, t, ident, size, *more = words
+        return written_answer(axis_of(" ".join(["axis", class_, r, t, ident] + more)), int(ident, 16), b"\xee" * int(size))
+    r, t, ident, octets = int(words[0]), int(words[1]), int(words[2], 16), octets_of(words[3:])
+    return read_answer(lambda: read_telegram(r, t, ident, octets) if kind == "telegram" else read_block(r, t, octets))
 
 
 def answer_to(a, line):
@@ -604,21 +850,48 @@ def answer_to(a, line):
     kind, *words = line.split()
     if kind == "measured":
         size, raw, e = (int(w) for w in words[:3])
-        out = bytes(int(w, 16) for w in words[3:])
+        out = octets_of(words[3:])
         return cycle_answer(a, lambda octets: a.cycle83(raw, e, out, octets), b"\xee" * size)
+    if kind == "exchange":
+        size, raw = (int(w) for w in words[:2])
+        out = octets_of(words[2:])
+        return cycle_answer(a, lambda octets: a.cycle(raw, out, octets), b"\xee" * size)
+    if kind == "serial":
+        a.software, a.serial = list(octets_of(words[:2])), list(octets_of(words[2:]))
+        return []
+    if kind == "keep":
+        a.link.bring(*(int(w) for w in words[:8]), *(int(w, 16) for w in words[8:]))
+        return []
     numbers = [int(w) for w in words]
     if kind == "given":
         a.place, a.last, a.offset, a.preset, a.held = numbers
         return []
-    if kind == "keep":
-        a.link.bring(*numbers)
-        return []
+    if kind == "diagnose":
+        return diagnosis_answer(a, b"\xee" * numbers[0])
+    if kind == "velocity":
+        return velocity_answer(a, *numbers)
     if kind == "list":
         out = [7] * numbers[0]
         return answer(a, lambda: a.batch(numbers[1:], out)) + [" ".join(["  list"] + [str(p) for p in out])]
     calls = {"first": a.start, "number": a.read_raw, "reading": a.read, "hold": a.hold}
     calls.update(preset=lambda v: a.set_preset(v, False), change=lambda v: a.set_preset(v, True))
     return answer(a, lambda: calls[kind](*numbers))
+
+
+def replayed(lines):
+    """The lines without the answers, each with those of the model under it."""
+    a, made = None, []
+    for line in lines:
+        if line.startswith("  "):
+            continue
+        made.append(line)
+        if line.startswith("axis"):
+            a = axis_of(line)
+        elif line.startswith(("telegram", "block", "write")):
+            made += parameters_answer(line)
+        elif line and not line.startswith("#"):
+            made += answer_to(a, line)
+    return made
 
 
 def repeated(script, standing):
@@ -667,6 +940,8 @@ def vectors(by_hand):
     repeated(script, standing)
     script.random = random.Random(132)
     stays(script, random.Random(4))
+    script.random = random.Random(302)
+    lives(script, random.Random(5))
     return script
 
 
@@ -700,6 +975,21 @@ def stays(script, rng):
         script.carry(of_class(rng, large if n == 4 else small, True), 8)
 
 
+def lives(script, rng):
+    script.lines.append(CALCULATED + "the sign of life, small sensors and the largest; then class 4 axes with bit 5 at 1, and class 2 axes")
+    for n in range(15):
+        a = of_class(rng, large if n % 5 == 4 else small, True)
+        a.octet = a.octet & ~32 | rng.choice([0, 4, 16])
+        a.life = 255 if n == 7 else 1 + n % 3
+        script.life(a, 15)
+    for n in range(5):
+        a = of_class(rng, large if n == 4 else small, True)
+        a.life = n % 3
+        script.life(a, 9)
+    for n in range(4):
+        script.life(of_class(rng, large if n == 3 else small, False), 8)
+
+
 def of_class(rng, draw, class4):
     a = draw(rng)
     return a if a.class4 == class4 else of_class(rng, draw, class4)
@@ -708,7 +998,8 @@ def of_class(rng, draw, class4):
 def main():
     folder = os.path.join(os.path.dirname(os.path.abspath(__file__)), os.pardir, "crates", "vectors")
     stdout = open(os.path.join(folder, "stdout"), encoding="utf-8").read().split("\n")
-    script = vectors(list(itertools.takewhile(lambda line: not line.startswith(CALCULATED), stdout)))
+    by_hand = list(itertools.takewhile(lambda line: not line.startswith(CALCULATED), stdout))
+    script = vectors(list(itertools.takewhile(lambda line: not line.startswith(NOT_REPEATED), by_hand)))
     counts = f"{script.calls} calls, {script.cycles} of them cycles, {script.measured} of these of telegram 83"
     if "--check" not in sys.argv[1:]:
         print("\n".join(script.lines))
@@ -717,8 +1008,10 @@ def main():
     stdin = open(os.path.join(folder, "stdin"), encoding="utf-8").read().split("\n")
     calculated = stdout[-len(script.lines) - 1 : -1] == script.lines
     asked = [line for line in stdout if not line.startswith("  ")] == stdin
+    again = replayed(by_hand)
     print(f"{counts}: {'as' if calculated else 'NOT as'} calculated; stdin {'is' if asked else 'is NOT'} stdout without the answers")
-    sys.exit(0 if calculated and asked else 1)
+    print(f"the part by hand, {sum(line.startswith('  ') for line in again)} lines of answers: {'as' if again == by_hand else 'NOT as'} calculated")
+    sys.exit(0 if calculated and asked and again == by_hand else 1)
 
 
 if __name__ == "__main__":

@@ -1,4 +1,4 @@
-//! The same work by hand in Rust: start and batch by document 01's rules, the readings looked through before any position is written.
+//! The same work by hand in Rust: start and batch by the rules of documents 01 and 02, the readings looked through before any position is written.
 //! Twice: as one writes it down, and tuned as far as the same method goes.
 
 use encoder_tests::model::{Parameters, Plate};
@@ -16,7 +16,8 @@ fn force(plate: Plate, sent: Parameters) -> Result<Force, u8> {
     let (r, t) = (u64::from(plate.steps), u64::from(plate.turns));
     let (units, range, octet, class4) = (u64::from(sent.units), u64::from(sent.range), sent.operating, sent.class4 != 0);
     let (on, scaling) = (octet & 0x02 != 0, octet & 0x0A == 0x0A);
-    if if class4 { octet & 0xE0 != 0x20 } else { octet & 0xF0 != 0 } {
+    let reserved = if class4 { 0xC0 } else { 0xF0 };
+    if octet & reserved != 0 {
         return Err(3);
     }
     if scaling && (units == 0 || units > r) {
@@ -27,6 +28,9 @@ fn force(plate: Plate, sent: Parameters) -> Result<Force, u8> {
     }
     if class4 && sent.speed > 3 {
         return Err(6);
+    }
+    if class4 && octet & 0x20 == 0 && sent.life == 0 {
+        return Err(17);
     }
     let (m, l) = if scaling { (units, range) } else { (r, r * t) };
     Ok(Force { r, c: r * t, m, l, reversed: octet & 0x01 != 0 && (on || !class4) })

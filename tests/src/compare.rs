@@ -49,8 +49,8 @@ impl<Case: Debug> Display for Compared<Case> {
 
 #[derive(Default)]
 pub struct Counts {
-    /// Cases per answer of the model: at 0 the calls taken, at n those refused with n.
-    pub answers: [u64; 14],
+    /// Cases per answer of the model: at 0 the calls taken, at n those refused with n. Document 02 goes up to 23.
+    pub answers: [u64; 24],
     pub positions: u64,
     /// Moves, among the calls taken, in which the position went past an end of its range L, the sensor past one of C.
     pub position_wraps: u64,

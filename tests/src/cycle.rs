@@ -1,5 +1,6 @@
 //! One axis record and its link over many calls: start, readings, presets, passes, velocity and the cycles of
-//! document 01, telegram 83 of document 02, No. 1, and the preset that stays due of document 02, No. 2.
+//! document 01; of document 02 telegram 83 (No. 1), the preset that stays due (No. 2), and the sign of life with the
+//! errors that have a code (No. 3).
 
 use crate::model::{self, bit, number, refuse_if, Axis, Parameters, Plate};
 
@@ -13,7 +14,12 @@ pub struct Numbers {
     pub held: i128,
 }
 
-/// The link record. `counted` is bit 31 or bit 12 as last counted; `due` is a preset of bit 31 not made yet.
+/// The codes of errors.
+const FAULTY: u16 = 0x0001;
+const LIFE_LOST: u16 = 0x0F02;
+
+/// The link record. `counted` is bit 31 or bit 12 as last counted; `due` is a preset of bit 31 not made yet. `counter`
+/// and `expected` are the failure counter and the expected value of the sign of life; `code` is that of the error held.
 #[derive(Clone, Copy, Debug, Default)]
 pub struct Link {
     pub faulty: bool,
@@ -22,6 +28,9 @@ pub struct Link {
     pub acknowledge: bool,
     pub executed: bool,
     pub due: bool,
+    pub counter: u32,
+    pub expected: u32,
+    pub code: u16,
 }
 
 /// An axis with its link, from call to call. There are no numbers before the start.
@@ -105,6 +114,12 @@ impl Device {
         self.within_limits().ok_or(model::NO_AXIS)
     }
 
+    /// Row 16 of a call that brings the link too.
+    fn linked(&self) -> Result<(), u8> {
+        self.started()?;
+        refuse_if(!self.link.within_limits(&self.parameters), model::NO_AXIS)
+    }
+
     /// A call on a copy of the record. The copy is stored unless the call is turned away.
     fn call(&mut self, call: impl FnOnce(&mut Started) -> Result<(), u8>) -> Result<(), u8> {
         let mut started = self.started()?;
@@ -176,8 +191,15 @@ impl Device {
         started.velocity(self.raw(step, turn)?, elapsed)
     }
 
+    /// The refusals of a diagnosis into so many octets; the octets are not worked out.
+    pub fn diagnose(&self, length: usize) -> Result<(), u8> {
+        self.linked()?;
+        refuse_if(length != if self.parameters.class_on() { 57 } else { 10 }, model::BUFFER)
+    }
+
     /// The cycle of the axis's class.
     pub fn exchange(&mut self, raw: u32, output: &[u8], input: &mut [u8]) -> Result<(), u8> {
+        self.linked()?;
         let (parameters, mut link) = (self.parameters, self.link);
         self.call(|started| {
             let (length, cycle): (_, Cycle) =
@@ -193,6 +215,7 @@ impl Device {
 
     /// Telegram 83. NIST_B is worked out from the record as the cycle finds it, before any move or preset.
     pub fn measured(&mut self, raw: u32, elapsed: u16, output: &[u8], input: &mut [u8]) -> Result<(), u8> {
+        self.linked()?;
         let started = self.started()?;
         let lengths = output.len() == 4 && input.len() == 16;
         refuse_if(!self.parameters.is_class_four() || !lengths, model::BUFFER)?;
@@ -206,6 +229,64 @@ impl Device {
 
 /// A cycle from the move on, which has been made unless the link says faulty. The answer is the input.
 type Cycle = fn(&mut Link, &mut Started, &Parameters, &[u8]) -> Vec<u8>;
+
+/// Where the counter stops, on an axis with the sign of life: ten times block octet 10.
+fn stop(parameters: &Parameters) -> u32 {
+    10 * u32::from(parameters.life)
+}
+
+/// Document 02, No. 3.
+impl Link {
+    fn within_limits(&self, parameters: &Parameters) -> bool {
+        let known = [0, FAULTY, LIFE_LOST].contains(&self.code) && (self.code != 0) == self.error;
+        let of_axis = if parameters.sign_of_life() {
+            self.counter <= stop(parameters)
+        } else {
+            self.counter == 0 && self.code != LIFE_LOST
+        };
+        self.expected <= 15 && known && of_axis
+    }
+
+    /// Counts the value of one cycle. Before the start the expected value is 0.
+    fn count_life(&mut self, value: u32, stop: u32) {
+        if self.expected != 0 {
+            let failed = value != self.expected;
+            self.counter = if failed { stop.min(self.counter + 10) } else { self.counter.saturating_sub(1) };
+        }
+        self.expected = self.expected_after(value);
+    }
+
+    fn expected_after(&self, value: u32) -> u32 {
+        match value {
+            0 if self.expected == 0 => 0,
+            0 | 15 => 1,
+            _ => value + 1,
+        }
+    }
+
+    /// The code of the error that arises in this cycle, or 0.
+    fn arising(&self, parked: bool, stopped: bool) -> u16 {
+        if self.faulty && !parked {
+            FAULTY
+        } else if stopped {
+            LIFE_LOST
+        } else {
+            0
+        }
+    }
+
+    /// Error held with its code, and acknowledge seen, in the order of document 01.
+    fn hold_error(&mut self, acknowledge: bool, parked: bool, stopped: bool) {
+        if !self.error {
+            self.code = self.arising(parked, stopped);
+            self.error = self.code != 0;
+        }
+        if self.acknowledge && !acknowledge && !self.faulty && !stopped {
+            (self.error, self.code) = (false, 0);
+        }
+        self.acknowledge = self.error && acknowledge;
+    }
+}
 
 impl Link {
     /// What the link keeps for class 4 stays as it is.
@@ -223,10 +304,15 @@ impl Link {
         started.position().to_be_bytes().to_vec()
     }
 
-    /// Telegram 81. `due` stays as it is: only bit 31 has to do with it.
+    /// Telegram 81. `due` stays as it is: only bit 31 has to do with it. The sign of life counts whatever bit 10 is.
     fn class_four(&mut self, started: &mut Started, parameters: &Parameters, output: &[u8]) -> Vec<u8> {
-        let control = if bit(number(output, 1, 2), 10) { number(output, 3, 4) } else { 0 };
-        self.hold_error(bit(control, 15), bit(control, 14));
+        let (encoder, alive) = (number(output, 1, 2), parameters.sign_of_life());
+        if alive {
+            self.count_life(encoder >> 12, stop(parameters));
+        }
+        let stopped = alive && self.counter == stop(parameters);
+        let control = if bit(encoder, 10) { number(output, 3, 4) } else { 0 };
+        self.hold_error(bit(control, 15), bit(control, 14), stopped);
         let rise = bit(control, 12) && !self.counted;
         let made = rise && parameters.class_on() && !self.error && !self.faulty;
         if made {
@@ -236,18 +322,9 @@ impl Link {
         self.executed = bit(control, 12) && (made || self.executed);
         let position = started.position();
         let first = if bit(parameters.operating, 2) { started.unshifted() } else { position };
-        let second = if self.error { 0x0001 } else { position };
+        let second = if self.error { u32::from(self.code) } else { position };
         let words = (0x0200 << 16) + self.status(bit(control, 14));
         [words, first, second].iter().flat_map(|number| number.to_be_bytes()).collect()
-    }
-
-    /// Error held and acknowledge seen, in the order of document 01.
-    fn hold_error(&mut self, acknowledge: bool, parked: bool) {
-        self.error = self.error || self.faulty && !parked;
-        if self.acknowledge && !acknowledge {
-            self.error = self.error && self.faulty;
-        }
-        self.acknowledge = self.error && acknowledge;
     }
 
     /// G1_ZSW.

@@ -10,6 +10,9 @@ struct Draw(u64);
 const BATCH: u64 = 1;
 const TELEGRAM: u64 = 2;
 
+/// Of block octet 1: at 0 the block is one of profile version 3.1, with the sign of life.
+const BIT_5: u8 = 0b0010_0000;
+
 pub fn batch(seed: u64, index: u64) -> Batch {
     let mut draw = Draw::new(seed, BATCH, index);
     let plate = draw.plate();
@@ -138,7 +141,19 @@ impl Draw {
                 self.pick(&[any, any, (0, 0), (u32::MAX, 0), (plate.steps + 1, any.1), (units, units - 1)]);
         }
         let speed = if class4 == 0 { self.next() as u8 } else { self.between(0, 3) as u8 };
-        Parameters { class4, operating, units, range, life: self.next() as u8, speed }
+        let life = self.life(class4, operating);
+        Parameters { class4, operating, units, range, life, speed }
+    }
+
+    /// Any sign-of-life limit, both ends often. 0 is acceptable unless bit 5 of a class 4 block is 0.
+    fn life(&mut self, class4: u8, operating: u8) -> u8 {
+        let any = self.next() as u8;
+        let life = self.pick(&[0, 1, 255, any, any]);
+        if class4 != 0 && operating & BIT_5 == 0 {
+            life.max(1)
+        } else {
+            life
+        }
     }
 
     /// Octet 9 or block octet 1 with the reserved bits as they must be and the others as they come.
@@ -147,7 +162,7 @@ impl Draw {
         if class4 == 0 {
             any & 0b0000_1111
         } else {
-            any & 0b0001_1111 | 0b0010_0000
+            any & 0b0011_1111
         }
     }
 
@@ -168,13 +183,19 @@ impl Draw {
     /// Damages one field or several; without scaling in force some of it must make no difference.
     fn damage_parameters(&mut self, plate: Plate, sent: &mut Parameters) {
         loop {
-            match self.between(0, 3) {
-                0 => sent.operating ^= 1 << self.between(if sent.class4 == 0 { 4 } else { 5 }, 7),
+            match self.between(0, 4) {
+                0 => sent.operating ^= 1 << self.between(if sent.class4 == 0 { 4 } else { 6 }, 7),
                 1 => sent.units = self.pick(&[0, plate.steps + 1, u32::MAX]),
                 2 => {
                     let most = u64::from(sent.units) * u64::from(plate.turns);
                     let above = u32::try_from(most + 1).unwrap_or(u32::MAX);
                     sent.range = self.pick(&[sent.units.saturating_sub(1), above, 0, u32::MAX]);
+                }
+                3 => {
+                    sent.life = 0; // turned away only with bit 5 at 0, and never of class 2
+                    if sent.class4 != 0 && self.chance(50) {
+                        sent.operating &= !BIT_5;
+                    }
                 }
                 _ => {
                     let any = self.between(4, 255) as u8;

@@ -6,7 +6,7 @@ use std::fmt::Display;
 use std::process::ExitCode;
 use std::time::Instant;
 
-const ANSWERS: [(usize, &str); 11] = [
+const ANSWERS: [(usize, &str); 12] = [
     (0, "taken"),
     (1, "length"),
     (2, "ident"),
@@ -18,6 +18,7 @@ const ANSWERS: [(usize, &str); 11] = [
     (9, "turn"),
     (10, "half range"),
     (13, "buffer"),
+    (17, "sign-of-life limit"),
 ];
 
 fn main() -> ExitCode {

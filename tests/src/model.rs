@@ -1,8 +1,9 @@
-//! The rules of document 01, as close to its words as Rust allows and with no regard to speed.
+//! The rules of document 01, with the parameters of document 02, No. 3, as close to their words as Rust allows and with
+//! no regard to speed.
 //!
 //! All arithmetic is exact: i128 never comes near its limits here, and overflow checks are on.
 
-/// Refusals: the numbers of document 01's table "When a call is turned away".
+/// Refusals: the numbers of document 01's table "When a call is turned away", and 17 of document 02, No. 3.
 pub const LENGTH: u8 = 1;
 pub const IDENT: u8 = 2;
 pub const RESERVED_BIT: u8 = 3;
@@ -18,6 +19,7 @@ pub const CLASS_OFF: u8 = 12;
 pub const BUFFER: u8 = 13;
 pub const ELAPSED: u8 = 14;
 pub const NO_AXIS: u8 = 16;
+pub const LIFE_LIMIT: u8 = 17;
 
 /// The part of the nameplate that the axis needs: R steps per turn and T turns.
 #[derive(Clone, Copy, Debug)]
@@ -110,16 +112,18 @@ impl Parameters {
         bit(self.operating, 0) && (self.class_on() || !self.is_class_four())
     }
 
-    /// Class 2: bits 4 to 7 zero. Class 4: bit 5 must be 1, bits 6 and 7 zero.
-    fn reserved_bits_hold(&self) -> bool {
-        let required: &[(u32, bool)] = if self.is_class_four() {
-            &[(5, true), (6, false), (7, false)]
-        } else {
-            &[(4, false), (5, false), (6, false), (7, false)]
-        };
-        required.iter().all(|(number, state)| bit(self.operating, *number) == *state)
+    /// Class 4 with bit 5 at 0, the profile version 3.1. Class 2 never has the sign of life.
+    pub(crate) fn sign_of_life(&self) -> bool {
+        self.is_class_four() && !bit(self.operating, 5)
     }
 
+    /// Class 2: bits 4 to 7 zero. Class 4: bits 6 and 7 zero.
+    fn reserved_bits_hold(&self) -> bool {
+        let first = if self.is_class_four() { 6 } else { 4 };
+        (first..8).all(|number| !bit(self.operating, number))
+    }
+
+    /// Rows 3 to 6, then 17, which asks for nothing of the class bit.
     pub(crate) fn check(&self, plate: &Plate) -> Result<(), u8> {
         refuse_if(!self.reserved_bits_hold(), RESERVED_BIT)?;
         if self.scaling_in_force() {
@@ -127,7 +131,8 @@ impl Parameters {
             refuse_if(units == 0 || units > i128::from(plate.steps), REVOLUTION_UNITS)?;
             refuse_if(range < units || range > units * i128::from(plate.turns), TOTAL_RANGE)?;
         }
-        refuse_if(self.is_class_four() && self.speed > 3, SPEED_UNIT)
+        refuse_if(self.is_class_four() && self.speed > 3, SPEED_UNIT)?;
+        refuse_if(self.sign_of_life() && self.life == 0, LIFE_LIMIT)
     }
 }
 

@@ -1,4 +1,4 @@
-//! The linked library against the model and against the bench values of document 01.
+//! The linked library against the model, against the bench values of document 01 and examples of document 02, No. 3.
 
 use encoder_tests::compare::{self, demanded, Counts};
 use encoder_tests::library;
@@ -27,7 +27,7 @@ fn assert_equal_and_full(name: &str, counts: &Counts, answers: &[usize]) {
 #[test]
 fn batches() {
     let counts = compare::batches(count("BATCHES", 1_000_000), SEED);
-    assert_equal_and_full("batches", &counts, &[0, 3, 4, 5, 6, 7, 9, 10, 13]);
+    assert_equal_and_full("batches", &counts, &[0, 3, 4, 5, 6, 7, 9, 10, 13, 17]);
     assert!(counts.position_wraps > 0 && counts.sensor_wraps > 0);
 }
 
@@ -35,7 +35,7 @@ fn batches() {
 fn telegrams() {
     let (telegrams, blocks) = compare::telegrams(count("TELEGRAMS", 1_000_000), SEED);
     assert_equal_and_full("telegrams", &telegrams, &[0, 1, 2, 3, 4, 5, 7, 13]);
-    assert_equal_and_full("blocks", &blocks, &[0, 1, 3, 4, 5, 6, 7, 13]);
+    assert_equal_and_full("blocks", &blocks, &[0, 1, 3, 4, 5, 6, 7, 13, 17]);
 }
 
 /// From 0 on, 300,000 moves by `way` raw numbers. Where scaling is on, the range is one short of the sensor's.
@@ -81,6 +81,13 @@ fn sent(class4: u8, operating: u8, units: u32, range: u32) -> Batch {
     Batch { parameters, ..bench(6144, &[6144]) }
 }
 
+/// Class 4 with M = 1000, a sign-of-life limit and a speed unit, at raw number 6144.
+fn alive(operating: u8, range: u32, life: u8, speed: u8) -> Batch {
+    let mut call = sent(1, operating, 1000, range);
+    (call.parameters.life, call.parameters.speed) = (life, speed);
+    call
+}
+
 /// The listing's device before its preset.
 fn listing(raws: &[u32]) -> Batch {
     let mut call = bench(28, raws);
@@ -102,7 +109,11 @@ fn telegram(operating: u8, units: u32, range: u32) -> Telegram {
 }
 
 fn block(operating: u8, units: u32, range: u32, speed: u8) -> Telegram {
-    octets(true, &[&[operating][..], &units.to_be_bytes(), &range.to_be_bytes(), &[10, speed]].concat())
+    alive_block(operating, units, range, 10, speed)
+}
+
+fn alive_block(operating: u8, units: u32, range: u32, life: u8, speed: u8) -> Telegram {
+    octets(true, &[&[operating][..], &units.to_be_bytes(), &range.to_be_bytes(), &[life, speed]].concat())
 }
 
 fn with_range(range: u32, mut call: Batch) -> Batch {
@@ -142,6 +153,47 @@ fn bench_batches() -> Vec<(Batch, Answer)> {
     ]
 }
 
+/// Bit 5 at 0, document 02, No. 3: 17 comes after 6 and before 9, whatever the class bit says, and never of class 2.
+fn profile_batches() -> Vec<(Batch, Answer)> {
+    let no_raw = |call: Batch| Batch { first: 16_777_216, ..call };
+    let class_two = |operating| Batch { first: 1, raws: vec![1], ..sent(0, operating, 1000, 4_096_000) };
+    vec![
+        (alive(0x0A, 4_096_000, 1, 0), Ok(vec![1500])),
+        (alive(0x0A, 4_096_000, 255, 3), Ok(vec![1500])),
+        (alive(0x0A, 4_096_000, 0, 0), Err(17)),
+        (alive(0x2A, 4_096_000, 0, 0), Ok(vec![1500])),
+        (alive(0x00, 0, 0, 0), Err(17)),
+        (alive(0x00, 0, 1, 0), Ok(vec![6144])),
+        (alive(0x4A, 4_096_000, 1, 0), Err(3)),
+        (alive(0x8A, 999, 0, 4), Err(3)),
+        (alive(0x0A, 999, 0, 4), Err(5)),
+        (alive(0x0A, 4_096_000, 0, 4), Err(6)),
+        (no_raw(alive(0x0A, 4_096_000, 0, 0)), Err(17)),
+        (no_raw(alive(0x0A, 4_096_000, 1, 0)), Err(9)),
+        (class_two(0x0A), Ok(vec![0])),
+        (class_two(0x2A), Err(3)),
+    ]
+}
+
+/// The same for the reader of blocks.
+fn profile_blocks() -> Vec<(Telegram, Answer)> {
+    vec![
+        (alive_block(0x0A, 1000, 4_096_000, 1, 3), Ok(vec![0x0A, 1000, 4_096_000, 1, 3])),
+        (alive_block(0x1F, 1000, 4_096_000, 255, 0), Ok(vec![0x1F, 1000, 4_096_000, 255, 0])),
+        (alive_block(0x0A, 1000, 4_096_000, 0, 3), Err(17)),
+        (alive_block(0x2A, 1000, 4_096_000, 0, 3), Ok(vec![0x2A, 1000, 4_096_000, 0, 3])),
+        (alive_block(0x00, 0, 0, 0, 0), Err(17)),
+        (alive_block(0x00, 0, 0, 1, 0), Ok(vec![0, 0, 0, 1, 0])),
+        (alive_block(0x4A, 0, 0, 0, 4), Err(3)),
+        (alive_block(0x8A, 0, 0, 0, 4), Err(3)),
+        (alive_block(0x0A, 0, 0, 0, 4), Err(4)),
+        (alive_block(0x0A, 1000, 999, 0, 4), Err(5)),
+        (alive_block(0x0A, 1000, 1000, 0, 4), Err(6)),
+        (Telegram { parameters_length: 3, ..alive_block(0x0A, 1000, 1000, 0, 0) }, Err(13)),
+        (octets(true, &[0x0A, 0, 0, 0, 1, 0, 0, 0, 1, 0]), Err(1)),
+    ]
+}
+
 /// The same for the readers.
 fn bench_telegrams() -> Vec<(Telegram, Answer)> {
     let bench = [0, 0, 0, 0, 0x12, 0x34, 0, 0, 0x0A, 0, 0, 0x03, 0xE8, 0, 0x3E, 0x80, 0];
@@ -157,7 +209,8 @@ fn bench_telegrams() -> Vec<(Telegram, Answer)> {
         (telegram(0x02, 4097, 999), Ok(vec![0x02, 4097, 999])),
         (telegram(0x1A, 1000, 4_096_000), Err(3)),
         (block(0x2A, 1000, 4_096_000, 3), Ok(vec![0x2A, 1000, 4_096_000, 10, 3])),
-        (block(0x0A, 1000, 4_096_000, 3), Err(3)),
+        (block(0x0A, 1000, 4_096_000, 3), Ok(vec![0x0A, 1000, 4_096_000, 10, 3])),
+        (block(0x6A, 1000, 4_096_000, 3), Err(3)),
         (block(0x2A, 4097, 4_096_000, 3), Err(4)),
         (block(0x2A, 1000, 999, 3), Err(5)),
         (block(0x2A, 1000, 4_096_001, 3), Err(5)),
@@ -168,20 +221,20 @@ fn bench_telegrams() -> Vec<(Telegram, Answer)> {
 
 #[test]
 fn model_gives_the_bench_values() {
-    for (call, answer) in bench_batches() {
+    for (call, answer) in [bench_batches(), profile_batches()].concat() {
         assert_eq!(model::batch(&call), answer, "{call:?}");
     }
-    for (call, answer) in bench_telegrams() {
+    for (call, answer) in [bench_telegrams(), profile_blocks()].concat() {
         assert_eq!(model::read(&call), answer, "{call:?}");
     }
 }
 
 #[test]
 fn library_gives_the_bench_values() {
-    for (call, answer) in bench_batches() {
+    for (call, answer) in [bench_batches(), profile_batches()].concat() {
         assert_eq!(library::batch(&call), demanded(&answer, call.positions_length), "{call:?}");
     }
-    for (call, answer) in bench_telegrams() {
+    for (call, answer) in [bench_telegrams(), profile_blocks()].concat() {
         assert_eq!(library::read(&call), demanded(&answer, call.parameters_length), "{call:?}");
     }
 }

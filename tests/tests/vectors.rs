@@ -1,4 +1,5 @@
-//! The stored vectors of crates/vectors, and a few for telegram 83 and bit 31 worked out by hand, against the model.
+//! The stored vectors of crates/vectors, and a few for telegram 83, bit 31 and the sign of life worked out by hand,
+//! against the model.
 
 use encoder_tests::cycle::{Device, Link, Numbers};
 use encoder_tests::model::{Parameters, Plate};
@@ -8,10 +9,10 @@ use std::path::Path;
 use std::str::FromStr;
 
 /// Calls, by class and kind, that must be in the stored vectors at least: the test cannot pass emptily.
-const LEAST: [(&str, usize); 4] = [("4 exchange", 211), ("4 measured", 413), ("2 exchange", 512), ("2 measured", 14)];
+const LEAST: [(&str, usize); 4] = [("4 exchange", 529), ("4 measured", 591), ("2 exchange", 572), ("2 measured", 35)];
 
 /// Lines that leave the axis as it is and whose answers are not calculated here.
-const PASSED_OVER: [&str; 5] = ["telegram", "block", "write", "serial", "diagnose"];
+const PASSED_OVER: [&str; 4] = ["telegram", "block", "write", "serial"];
 
 fn decimal<T: FromStr<Err: Debug>>(word: &str) -> T {
     word.parse().expect("a decimal number within its limits")
@@ -37,11 +38,27 @@ fn numbers(words: &[&str]) -> Numbers {
     Numbers { place, last: decimal(words[1]), offset, preset, held }
 }
 
-/// The figures behind `keep`. The sixth may be missing: then no preset is due.
+/// The figures behind `keep`: six states, counter, expected value and code. Those from the sixth on may be missing and
+/// are then 0.
 fn link(words: &[&str]) -> Link {
-    assert!([5, 6].contains(&words.len()), "figures of a link");
+    assert!((5..=9).contains(&words.len()), "figures of a link");
     let [faulty, counted, error, acknowledge, executed, due] = [0, 1, 2, 3, 4, 5].map(|at| words.get(at) == Some(&"1"));
-    Link { faulty, counted, error, acknowledge, executed, due }
+    let [counter, expected] = [6, 7].map(|at| words.get(at).map_or(0, |word| decimal(word)));
+    let code = words.get(8).map_or(0, |word| code(word));
+    Link { faulty, counted, error, acknowledge, executed, due, counter, expected, code }
+}
+
+/// The code of an error: four hexadecimal digits.
+fn code(word: &str) -> u16 {
+    assert_eq!(word.len(), 4, "digits of a code");
+    u16::from_str_radix(word, 16).expect("a code")
+}
+
+fn link_line(link: &Link) -> String {
+    let Link { faulty, counted, error, acknowledge, executed, due, counter, expected, code } = link;
+    let states = [faulty, counted, error, acknowledge, executed, due];
+    list_line("  link", &states, |state| format!(" {}", u8::from(**state)))
+        + &format!(" {counter} {expected} {code:04x}")
 }
 
 /// The axis as a call has left it, or the refusal.
@@ -81,13 +98,19 @@ fn cycle(device: &mut Device, measured: bool, words: &[&str]) -> Vec<String> {
     } else {
         device.exchange(raw, &octets(2), &mut input)
     };
-    let Link { faulty, counted, error, acknowledge, executed, due } = device.link;
-    let kept = [faulty, counted, error, acknowledge, executed, due];
-    vec![
-        axis_line(device, answer),
-        list_line("  link", &kept, |state| format!(" {}", u8::from(*state))),
-        list_line(" ", &input, |octet| format!(" {octet:02x}")),
-    ]
+    let octets = list_line(" ", &input, |octet| format!(" {octet:02x}"));
+    vec![axis_line(device, answer), link_line(&device.link), octets]
+}
+
+/// The lines of a diagnosis as far as they are calculated here: both only if it is refused, the octets still EEh.
+fn diagnosis(device: &Device, words: &[&str]) -> Vec<String> {
+    let octets = vec![0xEE; decimal(words[0])];
+    match device.diagnose(octets.len()) {
+        Ok(()) => vec!["  done".to_string()],
+        Err(number) => {
+            vec![format!("  refused {number}"), list_line(" ", &octets, |octet: &u8| format!(" {octet:02x}"))]
+        }
+    }
 }
 
 /// Carries a call out and gives the lines of its answer.
@@ -136,6 +159,11 @@ fn replay(text: &str) -> BTreeMap<String, usize> {
         match words[0] {
             "given" => device.numbers = Some(numbers(&words[1..])),
             "keep" => device.link = link(&words[1..]),
+            "diagnose" => {
+                let lines = diagnosis(device, &words[1..]);
+                assert_eq!(stored.len(), 2, "lines of a diagnosis");
+                assert_eq!(stored[..lines.len()], lines, "left as stored, right as calculated");
+            }
             kind => assert_eq!(stored, answer(device, kind, &words[1..]), "left as stored, right as calculated"),
         }
         let class = if device.parameters.class4 == 1 { 4 } else { 2 };
@@ -168,4 +196,13 @@ fn bit_31_by_hand() {
     assert_eq!((counts["2 exchange"], counts["4 exchange"]), (46, 3));
     assert_eq!((counts["2 measured"], counts["4 measured"]), (1, 3));
     assert_eq!((counts["2 keep"], counts["4 keep"]), (9, 3));
+}
+
+#[test]
+fn sign_of_life_by_hand() {
+    let counts = replay(include_str!("sign_of_life.txt"));
+    assert_eq!((counts["4 exchange"], counts["2 exchange"]), (123, 11));
+    assert_eq!((counts["4 measured"], counts["2 measured"]), (27, 2));
+    assert_eq!((counts["4 keep"], counts["2 keep"]), (40, 8));
+    assert_eq!((counts["4 diagnose"], counts["2 diagnose"], counts["4 first"]), (8, 1, 18));
 }

@@ -4,6 +4,7 @@ use axis::Next;
 use axis_shaft::Reported;
 use axis_velocity::Speed;
 use cyclic::Cycled;
+use cyclic_link::Link;
 use diagnosis::Diagnosed;
 use encoder::effect::Effect;
 use encoder::effect::InForce;
@@ -79,8 +80,19 @@ pub(crate) fn cycled(answer: Cycled, input: &[u8]) {
     flag(k.acknowledged);
     flag(k.executed);
     flag(k.due);
+    life(k);
     line(b"");
     lent(input);
+}
+
+// Counter and expected value of the sign of life, and the code of the error.
+fn life(k: Link) {
+    text(b" ");
+    decimal(k.counter as u64);
+    text(b" ");
+    decimal(k.expected as u64);
+    text(b" ");
+    io::print_hex(STDOUT_FILENO, k.code as u64, 4);
 }
 
 fn flag(b: bool) {

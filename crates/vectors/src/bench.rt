@@ -3,6 +3,7 @@ use crate::answer;
 use crate::call;
 use crate::parse::Parsed;
 use crate::parse::decimal;
+use crate::parse::hexadecimal;
 use crate::vector::octets;
 use axis::Axis;
 use cyclic::Cycled;
@@ -121,7 +122,8 @@ fn fill(bench: Bench, buffer: &mut [u8]) {
     answer::diagnosed(answer, buffer);
 }
 
-// `keep`: a link that is brought: faulty, requested, error, acknowledged, executed, due, 1 or 0. A figure that is missing is 0.
+// `keep`: a link that is brought: faulty, requested, error, acknowledged, executed, due, 1 or 0; counter and expected value; and the code, hexadecimal. A figure
+// that is missing is 0.
 fn keep(bench: Bench, line: &[u8]) -> Bench {
     let faulty = decimal(line, 8);
     let requested = decimal(line, faulty.next);
@@ -129,6 +131,9 @@ fn keep(bench: Bench, line: &[u8]) -> Bench {
     let acknowledged = decimal(line, error.next);
     let executed = decimal(line, acknowledged.next);
     let due = decimal(line, executed.next);
+    let counter = decimal(line, due.next);
+    let expected = decimal(line, counter.next);
+    let code = hexadecimal(line, expected.next);
     let link = Link {
         faulty: faulty.value == 1,
         requested: requested.value == 1,
@@ -136,6 +141,9 @@ fn keep(bench: Bench, line: &[u8]) -> Bench {
         acknowledged: acknowledged.value == 1,
         executed: executed.value == 1,
         due: due.value == 1,
+        counter: counter.value,
+        expected: expected.value,
+        code: code.value,
     };
     let mut brought = bench;
     brought.link = link;

@@ -54,16 +54,8 @@ fn parameters(a: Parameters, b: Parameters) -> bool {
         & (f.operating == g.operating)
         & (f.units.0 == g.units.0)
         & (f.range.0 == g.range.0)
+        & (f.life == g.life)
         & (f.speed == g.speed)
-        & (life(a) == life(b))
-}
-
-// The one field that `fields` leaves out: class 2 has none.
-fn life(parameters: Parameters) -> u8 {
-    match parameters {
-        Parameters::Class4 { life, .. } => life,
-        Parameters::Class2 { .. } => 0,
-    }
 }
 
 fn shafts(a: Shaft, b: Shaft) -> bool {
