@@ -1,12 +1,12 @@
 -- Raw numbers: the oriented number, the difference, and the move or its refusal. A move is at most C, so that every number fits its word.
 pub use borrow.Author.Needs.{needs}
-use Rattle.integer.specs.Base.{_≡_, refl, sym, _∙_, Bool, true, false, cond, ℕ, zero, suc, _+_, _-_, _*_, _^_, _≤_, _<_, arith, ltb, leb, ℤ, pos, negℤ, natAbs, _-ℤ_}
-use Rattle.integer.specs.Base.{lt-ltb, le-ltb, le-leb, lt-leb, leb-false, w64, SFits, toZ, ofZ, toZ-pos}
+use Rattle.integer.specs.Base.{_≡_, refl, sym, _∙_, Bool, true, false, cond, ℕ, zero, suc, _+_, _-_, _*_, _/_, _^_, _≤_, _<_, arith, ltb, leb, ℤ, pos, negℤ, natAbs, _-ℤ_}
+use Rattle.integer.specs.Base.{lt-ltb, le-ltb, ne-eqb, eqb, eqb-false, le-leb, lt-leb, leb-true, leb-false, w64, SFits, toZ, ofZ, toZ-pos}
 use Rattle.integer.specs.{_modulo_}
 use Rattle.integer.proofs.{signed, neg-is, diff-is, reads, abs-is, fits-abs, diff-fits, diff-reads, modulo-lt, modulo-is, modulo-alike}
 use Rattle.encoder.specs.{InForce, Sound, wrongTurn, when, answer}
 use Rattle.encoder.proofs.{refused-is, before-none, when-not}
-use Rattle.axis_shaft.specs.{Approach, By, declared.Approach.the-variants.Refused, oriented, difference, shorter, moveOf, halfRefusal, moveRefusal, approachFrom}
+use Rattle.axis_shaft.specs.{Approach, By, declared.Approach.the-variants.Refused, oriented, difference, shorter, moveOf, halfRefusal, moveRefusal, approachFrom, gap}
 use native.Mathlib.Nat as N
 
 -- ---- 1. the oriented number
@@ -120,6 +120,35 @@ module _ (f : InForce) (last raw : ℕ) where
   unfolding approachFrom
   approach-9 h = rw (← raw-9 h)
 
+-- ---- how far apart two raw numbers are
+pub gap-up : (a b : ℕ) → a ≤ b → b - a ≡ gap a b
+gap-up a b h = rw (le-leb a b h)
+
+pub gap-down : (a b : ℕ) → b < a → a - b ≡ gap a b
+gap-down a b h = rw (lt-leb a b h)
+
+gap-swap : (a b : ℕ) → gap b a ≡ gap a b
+gap-swap a b = go (leb a b) refl
+  where
+    go : (t : Bool) → leb a b ≡ t → gap b a ≡ gap a b
+    go true t = let h = leb-true a b t in by-order (leb b a) refl h
+      where
+        by-order : (u : Bool) → leb b a ≡ u → a ≤ b → gap b a ≡ gap a b
+        by-order true u h = let k = leb-true b a u in sym (gap-up b a k) ∙ omega arith ∙ gap-up a b h
+        by-order false u h = sym (gap-down b a (leb-false b a u)) ∙ gap-up a b h
+    go false t = let h = leb-false a b t in sym (gap-up b a (omega arith)) ∙ gap-down a b h
+
+-- two numbers whose difference around c is c/2 are c/2 apart
+gap-half : (c from to : ℕ) → from < c → to < c → 2 * ((pos to -ℤ pos from) modulo c) ≡ c → gap from to ≡ c / 2
+gap-half c from to f t e = go (leb from to) refl
+  where
+    half : {n : ℕ} → 2 * n ≡ c → n ≡ c / 2
+    half {n} h = let two : 0 < 2 = omega arith in omega (arith, N.div-add-mod' c 2, N.mod-lt c two)
+
+    go : (b : Bool) → leb from to ≡ b → gap from to ≡ c / 2
+    go true b = let k = leb-true from to b in sym (gap-up from to k) ∙ half (rw (← apart-ahead c from to f t k) at e)
+    go false b = let k = leb-false from to b in sym (gap-down from to k) ∙ half (omega (arith, rw (← apart-round c from to f t k) at e))
+
 -- from the answer back to the number
 pub by-taken : (e : Approach) (z d : ℤ) (n : ℕ) → e ≡ By d → e ≡ answer Refused (By z) n → (n ≡ 0) × (d ≡ z)
 by-taken e z d zero t e-is = let h : By d ≡ By z = sym t ∙ e-is in (refl, cc)
@@ -134,8 +163,23 @@ pub raw-lt : (f : InForce) (last raw : ℕ) → moveRefusal f last raw ≡ 0 →
 unfolding moveRefusal
 raw-lt f last raw h = leb-false _ _ (when-not (leb (f .capacity .0) raw) 8 (before-none (when (leb (f .capacity .0) raw) wrongTurn) _ h .0))
 
+-- a reading below C that is not C/2 from the last one
+pub not-doubtful : (f : InForce) (last raw : ℕ) → Sound f → last < f .capacity .0 → leb (f .capacity .0) raw ≡ false → eqb (gap last raw) (f .capacity .0 / 2) ≡ false
+    → moveRefusal f last raw ≡ 0
+unfolding moveRefusal
+not-doubtful f last raw s lt small far =
+    let r-lt = leb-false _ _ small in
+    let apart-so : 2 * difference f last raw ≡ f .capacity .0 → gap last raw ≡ f .capacity .0 / 2 = λ e. by-way (f .reversed) refl r-lt e in
+    rw (small, ne-eqb (2 * difference f last raw) (f .capacity .0) (λ e. eqb-false _ _ far (apart-so e)))
+  where
+    by-way : (b : Bool) → f .reversed ≡ b → raw < f .capacity .0 → 2 * difference f last raw ≡ f .capacity .0 → gap last raw ≡ f .capacity .0 / 2
+    by-way false b r-lt e = gap-half (f .capacity .0) last raw lt r-lt (rw (← difference-off f last raw _ b refl) at e)
+    by-way true b r-lt e = gap-swap raw last ∙ gap-half (f .capacity .0) raw last r-lt lt (rw (← difference-on f last raw _ b lt r-lt refl) at e)
+
 pub taken-lt : (f : InForce) (last raw n : ℕ) → n ≡ 0 → n ≡ moveRefusal f last raw → raw < f .capacity .0
 taken-lt f last raw n z e = raw-lt f last raw (sym e ∙ z)
+
+pub ruleset gaps = (gap-up, gap-down)
 
 pub ruleset orients = (oriented-none, oriented-on, oriented-off, apart-ahead, apart-round, difference-off, difference-on)
 

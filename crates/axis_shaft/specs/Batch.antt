@@ -1,5 +1,5 @@
 -- A batch, document 01's pass: a list of raw numbers, and a list of positions of the same length, each as if read singly (rule 7).
-use Rattle.integer.specs.Base.{not, _&&_, List, [], _∷_, ℕ, eqb, ℤ, length}
+use Rattle.integer.specs.Base.{Bool, false, cond, not, _&&_, _||_, List, [], _∷_, ℕ, _-_, _/_, eqb, leb, ℤ, length}
 use Rattle.ring.specs.{inRange}
 use Rattle.encoder.specs.{InForce, wrongBuffer, noAxis, when, _before_, answer}
 use Rattle.axis_shaft.specs.{declared.Shaft.Shaft, declared.Moved.Moved, declared.Moved.the-variants.To, declared.Moved.the-variants.Refused, Rules.inside}
@@ -9,6 +9,14 @@ use Rattle.axis_shaft.specs.{Rules.moveRefusal, Rules.movedTo, Rules.pos
 unfoldable pub refusalIn : InForce → ℕ → List ℕ → ℕ
 refusalIn f last [] = 0
 refusalIn f last (raw ∷ raws) = moveRefusal f last raw before refusalIn f raw raws
+
+-- a quick look at all readings: some are C or above, or C/2 from the one before. If none is, none is refused
+abbrev pub gap : ℕ → ℕ → ℕ
+gap a b = cond (leb a b) (b - a) (a - b)
+
+unfoldable pub doubtful : ℕ → ℕ → List ℕ → Bool
+doubtful c last [] = false
+doubtful c last (raw ∷ raws) = (leb c raw || eqb (gap last raw) (c / 2)) || doubtful c raw raws
 
 -- the shaft after the readings
 unfoldable pub after : InForce → Shaft → List ℕ → Shaft

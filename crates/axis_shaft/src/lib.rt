@@ -2,6 +2,7 @@
 // the place is kept, and only this crate turns places into positions.
 mod place;
 mod raw;
+mod running;
 
 ghost use Rattle.integer.specs.Base.{_≡_};
 ghost use Rattle.encoder.specs.{rulesFit};
@@ -12,8 +13,8 @@ use encoder::quantity::Units;
 use encoder::refusal;
 use place::period;
 use raw::approach;
-use raw::first_refusal;
 use raw::oriented;
+use raw::refusal_among;
 use ring::between;
 
 pub struct Shaft {
@@ -146,7 +147,7 @@ impl Shaft {
         if raws.len() != room {
             return refusal::BUFFER;
         }
-        first_refusal(rules, self.last, raws)
+        refusal_among(rules, self.last, raws)
     }
 }
 

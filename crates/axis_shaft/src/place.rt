@@ -1,9 +1,8 @@
-// The place, kept modulo R x L, and its position (document 01, "The axis", rules 3 to 5 and 7).
-ghost use Rattle.integer.specs.Base.{_≡_, _<_, length};
+// The place, kept modulo R x L, and its position (document 01, "The axis", rules 3 to 5).
+ghost use Rattle.integer.specs.Base.{_≡_, _<_};
 ghost use Rattle.encoder.specs.{Sound};
-ghost use Rattle.axis_shaft.specs.{period, Inside, moveOf, movedTo, unshifted, positionAt, refusalIn, after, positionsIn};
+ghost use Rattle.axis_shaft.specs.{period, Inside, moveOf, movedTo, unshifted, positionAt};
 use crate::Shaft;
-use crate::raw::move_to;
 use encoder::effect::InForce;
 use encoder::quantity::Steps;
 use encoder::quantity::Units;
@@ -45,28 +44,5 @@ impl Shaft {
     {
         let unshifted = self.units(rules);
         ring::add(unshifted.0 as u64, offset, rules.span.0 as u64) as u32
-    }
-
-    // The shaft after accepted readings, with the position at each.
-    pub(crate) fn follow(
-        self,
-        rules: InForce,
-        offset: i64,
-        raws: &[u32],
-        positions: &mut [u32],
-    ) -> Shaft
-        requires { ⌜ Inside rules self × (length (now raws) ≡ length (now positions)) × (refusalIn rules (self .last .0) (now raws) ≡ 0) ⌝ }
-        ensures { λ r. ⌜ (r ≡ after rules self (now (raws .entry))) × (now (positions .exit) ≡ positionsIn rules offset self (now (raws .entry))) ⌝ }
-    {
-        let mut shaft = self;
-        let mut i = 0;
-        while i < raws.len() {
-            let raw = raws[i];
-            let next = shaft.advanced(rules, raw, move_to(rules, shaft.last, raw));
-            positions[i] = next.position(rules, offset);
-            shaft = next;
-            i += 1;
-        }
-        shaft
     }
 }

@@ -2,7 +2,7 @@
 ghost use Rattle.integer.specs.Base.{_≡_, _≤_, _<_, _^_, pos, _-ℤ_};
 ghost use Rattle.integer.specs.{_modulo_};
 ghost use Rattle.encoder.specs.{Sound};
-ghost use Rattle.axis_shaft.specs.{oriented, difference, shorter, moveOf, halfRefusal, moveRefusal, approachFrom, refusalIn};
+ghost use Rattle.axis_shaft.specs.{oriented, difference, shorter, moveOf, halfRefusal, moveRefusal, approachFrom, gap, doubtful, refusalIn};
 use crate::Approach;
 use encoder::effect::InForce;
 use encoder::quantity::Steps;
@@ -103,8 +103,44 @@ fn move_refusal(rules: InForce, last: Steps, raw: u32) -> u8
     half_range(difference(rules, last, here), rules.capacity)
 }
 
+// How far apart two raw numbers are, whichever is larger.
+fn gap(a: u32, b: u32) -> u32
+    ensures { λ r. ⌜ r ≡ gap a b ⌝ }
+{
+    if a <= b { b - a } else { a - b }
+}
+
+// Some reading is C or above, or C / 2 from the one before. If none is, all are taken. There is no branch on a reading, so that the compiler looks at
+// several of them at a time.
+fn doubtful(capacity: u32, before: u32, raws: &[u32]) -> bool
+    ensures { λ r. ⌜ r ≡ doubtful capacity before (now (raws .entry)) ⌝ }
+{
+    let half = capacity / 2;
+    let mut last = before;
+    let mut found = false;
+    let mut i = 0;
+    while i < raws.len() {
+        let raw = raws[i];
+        found = found | (capacity <= raw) | (gap(last, raw) == half);
+        last = raw;
+        i += 1;
+    }
+    found
+}
+
 // The first refusal among new readings, 0 where all are taken.
-pub(crate) fn first_refusal(rules: InForce, before: Steps, raws: &[u32]) -> u8
+pub(crate) fn refusal_among(rules: InForce, before: Steps, raws: &[u32]) -> u8
+    requires { ⌜ Sound rules × (before .0 < rules .capacity .0) ⌝ }
+    ensures { λ r. ⌜ r ≡ refusalIn rules (before .0) (now (raws .entry)) ⌝ }
+{
+    if !doubtful(rules.capacity.0 as u32, before.0 as u32, raws) {
+        return 0;
+    }
+    first_refusal(rules, before, raws)
+}
+
+// The same, reading after reading.
+fn first_refusal(rules: InForce, before: Steps, raws: &[u32]) -> u8
     requires { ⌜ Sound rules × (before .0 < rules .capacity .0) ⌝ }
     ensures { λ r. ⌜ r ≡ refusalIn rules (before .0) (now (raws .entry)) ⌝ }
 {

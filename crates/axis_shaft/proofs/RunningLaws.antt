@@ -1,0 +1,194 @@
+-- Units and rest through a batch, in machine words. Units that stay within the total range need no remainder by L, nor do positions; where a total
+-- range ends, the units go around L.
+use Rattle.integer.specs.Base.{_≡_, refl, sym, _∙_, ap, true, false≢true, _&&_, ℕ, _+_, _*_, _/_, _%_, _^_, _≤_, _<_, arith, T, ltb, leb, ℤ, pos, negsuc, natAbs, _+ℤ_}
+use Rattle.integer.specs.Base.{ltZ, nonNeg, ltb-true, w64, w32, Fits, SFits, toZ, ofZ, toZ-pos, digits-div}
+use Rattle.integer.specs.{_modulo_, _quotient_}
+use Rattle.integer.proofs.{apart, add-is, of-eq, reads, abs-is, fits-abs, modulo-lt, modulo-is, Splits, splits, splits-rest, splits-whole, around}
+use Rattle.ring.specs.{onRing}
+use Rattle.ring.proofs.{on-ring}
+use Rattle.encoder.specs.{InForce, Sound}
+use Rattle.encoder.proofs.{and-split}
+use Rattle.axis_shaft.specs.{Shaft, Running, Share, Within, shareOf, carried, onward, ranTo, runningOf, shaftOf, unshifted, moveOf}
+use Rattle.axis_shaft.proofs.{SensorLaws.move-fits, SensorLaws.move-most}
+use Rattle.axis_shaft.proofs.{ShareLaws.share-most, ShareLaws.share-part, ShareLaws.carried-most}
+use lib.{Arith.digits-lt, Signed.leZ}
+use native.Mathlib.Nat as N
+
+-- ---- a total range ends: whole units go around M × L
+module _ (f : InForce) (s : Sound f) where
+  all-most : f .scale .0 * f .span .0 ≤ 65536 * 2 ^ 31
+  all-most = N.mul-le-mul (s .scale-most) (s .span-most)
+
+  pub round-fits : Fits w64 (f .scale .0 * f .span .0)
+  round-fits = record { fits = omega (arith, all-most) }
+
+  -- units and ranges are the digits of what goes around L × M
+  pub ranges-on : (ranges units : ℕ) (w : ℤ)
+      → (pos (ranges * f .span .0 + units) +ℤ w) modulo (f .span .0 * f .scale .0)
+      ≡ (pos ranges +ℤ (pos units +ℤ w) quotient f .span .0) modulo f .scale .0 * f .span .0 + (pos units +ℤ w) modulo f .span .0
+  ranges-on ranges units w =
+      let z = pos units +ℤ w in
+      let q = z quotient f .span .0 in
+      around (modulo-lt z (s .span-least))
+      (record { is = omega (arith, splits z (s .span-least) .is, add-is (pos (ranges * f .span .0 + units)) w, add-is (pos units) w, ap (λ (x : ℕ). x * f .span .0) (add-is (pos ranges) q)) })
+      (s .scale-least)
+
+  pub ring-narrow : (z : ℤ) (n : ℕ) → n ≡ onRing z (f .span .0) → Fits w32 n
+  ring-narrow z n e = record { fits = omega (arith, e, on-ring z _ (s .span-least), modulo-lt z (s .span-least), s .span-most) }
+
+module _ (f : InForce) (s : Sound f) (k : Running) (w : Within f k) where
+  abbrev all : ℕ
+  all = k .ranges * f .span .0 + k .units .0
+
+  all-lt : all < f .scale .0 * f .span .0
+  all-lt = digits-lt (w .ranges) (w .units)
+
+  pub ranges-fit : Fits w64 (k .ranges * f .span .0)
+  ranges-fit = record { fits = omega (arith, all-lt, all-most f s) }
+
+  pub all-fits : Fits w64 (k .ranges * f .span .0 + k .units .0)
+  all-fits = record { fits = omega (arith, all-lt, all-most f s) }
+
+  pub around-is : (by : Share) (u n : ℕ) → SFits w64 (by .whole) → u ≡ onRing (pos (k .units .0) +ℤ toZ w64 (ofZ w64 (by .whole))) (f .span .0)
+      → n ≡ onRing (pos all +ℤ toZ w64 (ofZ w64 (by .whole))) (f .scale .0 * f .span .0)
+      → record { units = record { 0 = u }; rest = by .part; ranges = n / f .span .0; last = k .last } ≡ onward f k by
+  unfolding onward
+  around-is by u n fits u-is n-is =
+      let r-lt = modulo-lt (pos (k .units .0) +ℤ by .whole) (s .span-least) in
+      let whole = N.mul-pos (s .scale-least) (s .span-least) in
+      rw (
+        u-is,
+        n-is,
+        reads fits,
+        on-ring _ _ whole,
+        on-ring (pos (k .units .0) +ℤ by .whole) (f .span .0) (s .span-least),
+        N.mul-comm (f .scale .0) (f .span .0),
+        ranges-on f s (k .ranges) (k .units .0) (by .whole),
+        digits-div _ r-lt,
+      )
+
+  -- ---- the place again
+  pub parts-of-fit : Fits w64 ((k .ranges * f .span .0 + k .units .0) * f .steps .0)
+  parts-of-fit = record { fits = omega (arith, place-parts) }
+    where
+      place-parts : (all * f .steps .0 + k .rest < f .scale .0 * f .span .0 * f .steps .0) × (f .scale .0 * f .span .0 * f .steps .0 ≤ 65536 * 2 ^ 31 * 65536)
+      place-parts = (digits-lt all-lt (w .rest), N.mul-le-mul (all-most f s) (s .steps-most))
+
+  pub parts-all-fit : Fits w64 ((k .ranges * f .span .0 + k .units .0) * f .steps .0 + k .rest)
+  parts-all-fit =
+      let g = digits-lt {c = f .steps .0} all-lt (w .rest) in
+      let h = N.mul-le-mul (all-most f s) (s .steps-most) in
+      record { fits = omega arith }
+
+pub shaft-is : (f : InForce) (k : Running)
+    → record { place = record { 0 = ((k .ranges * f .span .0 + k .units .0) * f .steps .0 + k .rest) / f .scale .0 }; last = k .last } ≡ shaftOf f k
+unfolding shaftOf
+shaft-is f k = refl
+
+-- ---- a total range goes on
+not-beyond : (z : ℤ) (n : ℕ) → (leZ (pos 0) z && ltZ z (pos n)) ≡ true → (a : ℕ) × (z ≡ pos a) × (a < n)
+not-beyond (pos a) n t = (a, refl, ltb-true a n (and-split (leb 0 a) (ltb a n) t .1))
+not-beyond (negsuc a) n t = absurd (false≢true t)
+
+module _ (f : InForce) (s : Sound f) (k : Running) (w : Within f k) (by : Share) (small : natAbs (by .whole) ≤ 2 ^ 51) where
+  by-fits : SFits w64 (by .whole)
+  by-fits = fits-abs (by .whole) (omega arith)
+
+  abbrev to : ℤ
+  to = toZ w64 (k .units .0) +ℤ toZ w64 (ofZ w64 (by .whole))
+
+  to-is : to ≡ pos (k .units .0) +ℤ by .whole
+  to-is = rw (reads by-fits, toZ-pos w64 (k .units .0) (omega (arith, w .units, s .span-most)))
+
+  pub to-fits : SFits w64 to
+  to-fits =
+      let z = pos (k .units .0) +ℤ by .whole in
+      rw to-is (fits-abs z (omega (arith, w .units, s .span-most, abs-is (by .whole), abs-is z, add-is (pos (k .units .0)) (by .whole), apart z)))
+
+  -- a total range goes on: units below L, and no range more
+  module _ (t : (leZ (pos 0) (toZ w64 (ofZ w64 to)) && ltZ (toZ w64 (ofZ w64 to)) (toZ w64 (f .span .0))) ≡ true) where
+    goes-on : (n : ℕ) × (pos (k .units .0) +ℤ by .whole ≡ pos n) × (n < f .span .0)
+    goes-on = not-beyond _ _ (rw (reads to-fits, to-is, toZ-pos w64 (f .span .0) (omega (arith, s .span-most))) at t)
+
+    there : natAbs (toZ w64 (ofZ w64 to)) ≡ goes-on .0
+    there = rw (reads to-fits, to-is, goes-on .1)
+
+    pub to-above : T (nonNeg (toZ w64 (ofZ w64 to)))
+    to-above = rw (reads to-fits, to-is, goes-on .1) tt
+
+    pub to-cast : Fits w32 (natAbs (toZ w64 (ofZ w64 to)))
+    to-cast = record { fits = omega (arith, there, goes-on .2, s .span-most) }
+
+    pub onward-is : record { units = record { 0 = natAbs (toZ w64 (ofZ w64 to)) }; rest = by .part; ranges = k .ranges; last = k .last } ≡ onward f k by
+    unfolding onward
+    onward-is =
+        let z = pos (k .units .0) +ℤ by .whole in
+        let h : Splits z (pos 0) (f .span .0) (goes-on .0) = record { is = omega (arith, of-eq (goes-on .1), N.zero-mul (f .span .0)) } in
+        let none : (pos (k .ranges) +ℤ pos 0) modulo f .scale .0 ≡ k .ranges = modulo-is (pos (k .ranges) +ℤ pos 0) 0 0 (w .ranges) (omega arith) in
+        rw (there, splits-rest (goes-on .2) h, splits-whole (goes-on .2) h, none)
+
+-- ---- the position
+module _ (f : InForce) (s : Sound f) (u : ℕ) (offset : ℤ) (u-fits : Fits w32 u) (fits : SFits w64 offset) where
+  abbrev at : ℤ
+  at = toZ w64 u +ℤ toZ w64 (ofZ w64 offset)
+
+  at-is : at ≡ pos u +ℤ offset
+  at-is = rw (reads fits, toZ-pos w64 u (omega (arith, u-fits .fits)))
+
+  module _ (small : natAbs offset < f .span .0) where
+    pub at-fits : SFits w64 at
+    at-fits =
+        let z = pos u +ℤ offset in
+        rw at-is (fits-abs z (omega (arith, u-fits .fits, s .span-most, abs-is offset, abs-is z, add-is (pos u) offset, apart z)))
+
+    module _ (t : (leZ (pos 0) (toZ w64 (ofZ w64 at)) && ltZ (toZ w64 (ofZ w64 at)) (toZ w64 (f .span .0))) ≡ true) where
+      stays : (n : ℕ) × (pos u +ℤ offset ≡ pos n) × (n < f .span .0)
+      stays = not-beyond _ _ (rw (reads at-fits, at-is, toZ-pos w64 (f .span .0) (omega (arith, s .span-most))) at t)
+
+      pub at-above : T (nonNeg (toZ w64 (ofZ w64 at)))
+      at-above = rw (reads at-fits, at-is, stays .1) tt
+
+      pub at-cast : Fits w32 (natAbs (toZ w64 (ofZ w64 at)))
+      at-cast = rw (reads at-fits, at-is, stays .1) (record { fits = omega (arith, stays .2, s .span-most) })
+
+      pub position-on : natAbs (toZ w64 (ofZ w64 at)) ≡ (pos u +ℤ offset) modulo f .span .0
+      position-on = rw (reads at-fits, at-is, stays .1) (sym (modulo-is (pos (stays .0)) 0 0 (stays .2) (omega arith)))
+
+  pub position-round : (n : ℕ) → n ≡ onRing (pos u +ℤ toZ w64 (ofZ w64 offset)) (f .span .0) → n ≡ (pos u +ℤ offset) modulo f .span .0
+  position-round n e = e ∙ rw (on-ring _ _ (s .span-least), reads fits)
+
+-- ---- the running values of a place
+pub running-is : (f : InForce) (k : Shaft)
+    → record {
+      units = record { 0 = k .place .0 * f .scale .0 / f .steps .0 % f .span .0 };
+      rest = k .place .0 * f .scale .0 % f .steps .0;
+      ranges = k .place .0 * f .scale .0 / f .steps .0 / f .span .0;
+      last = k .last;
+    } ≡ runningOf f k
+unfolding runningOf unshifted
+running-is f k = refl
+
+-- ---- one more reading, by its parts
+module _ (f : InForce) (s : Sound f) (k : Running) (raw : ℕ) (d : ℤ) (d-is : d ≡ moveOf f (k .last .0) raw) where
+  read : toZ w64 (ofZ w64 d) ≡ moveOf f (k .last .0) raw
+  read = rw (d-is, reads (move-fits f (k .last .0) raw s))
+
+  pub move-small : natAbs (toZ w64 (ofZ w64 d)) ≤ 2 ^ 31
+  move-small = rw read (omega (arith, move-most f (k .last .0) raw s, s .capacity-most))
+
+  module _ (b : Share) (b-is : b ≡ shareOf f (toZ w64 (ofZ w64 d))) where
+    pub part-lt : b .part < f .steps .0
+    part-lt = rw b-is (share-part f s (toZ w64 (ofZ w64 d)))
+
+    pub whole-small : natAbs (b .whole) ≤ 2 ^ 50
+    whole-small = rw b-is (share-most f s (toZ w64 (ofZ w64 d)) move-small)
+
+    module _ (c : Share) (c-is : c ≡ carried f (k .rest) b) where
+      pub next-small : natAbs (c .whole) ≤ 2 ^ 51
+      next-small = rw c-is (carried-most f s (k .rest) b whole-small)
+
+      pub ran-is : (r : Running) → r ≡ onward f k c → record { units = r .units; rest = r .rest; ranges = r .ranges; last = record { 0 = raw } } ≡ ranTo f k raw
+      unfolding ranTo
+      ran-is r r-is = rw (r-is, c-is, b-is, read)
+
+pub ruleset runs = (to-fits, to-above, to-cast, onward-is, ranges-fit, all-fits, round-fits, ring-narrow, around-is, parts-of-fit, parts-all-fit, shaft-is, at-fits, at-above, at-cast, position-on, position-round, running-is, move-small, part-lt, whole-small, next-small, ran-is)

@@ -1,0 +1,179 @@
+-- A move in units, and the rest with it. A move is counted ahead by whole turns, so that it is divided as a natural number: the turns give whole
+-- units and leave nothing. So no case depends on its sign.
+use Rattle.integer.specs.Base.{_≡_, refl, ap, Bool, true, false, cond, ℕ, _+_, _-_, _*_, _/_, _%_, _^_, _≤_, _<_, arith, T, ltb, ℤ, pos, natAbs, _+ℤ_, _-ℤ_, _*ℤ_}
+use Rattle.integer.specs.Base.{nonNeg, lt-ltb, le-ltb, w64, Fits, SFits, toZ, ofZ, toZ-pos}
+use Rattle.integer.proofs.{above, below, apart, add-is, diff-is, mul-is, reads, abs-is, fits-abs, to-nat, mul-le, modulo-lt, Splits, splits-rest, splits-whole, quotient-most}
+use Rattle.encoder.specs.{InForce, Sound}
+use Rattle.axis_shaft.specs.{Share, Lead, shareOf, carried, leadOf}
+use native.Mathlib.Nat as N
+
+-- ---- the lead: turns of 2^33 steps or more
+abbrev turnsOf : InForce → ℕ
+turnsOf f = 2 ^ 33 / f .steps .0 + 1
+
+module _ (f : InForce) (s : Sound f) where
+  turns-most : turnsOf f ≤ 2 ^ 33 + 1
+  turns-most = omega (arith, N.div-le-self (2 ^ 33) (f .steps .0))
+
+  lead-steps : (2 ^ 33 < turnsOf f * f .steps .0) × (turnsOf f * f .steps .0 ≤ 2 ^ 33 + 65536)
+  lead-steps =
+      let e = N.div-add-mod' (2 ^ 33) (f .steps .0) in
+      let h = N.mod-lt (2 ^ 33) (s .steps-least) in
+      (omega arith, omega (arith, s .steps-most))
+
+  lead-units : turnsOf f * f .scale .0 ≤ (2 ^ 33 + 1) * 65536
+  lead-units = N.mul-le-mul turns-most (s .scale-most)
+
+  pub turns-fit : Fits w64 (2 ^ 33 / f .steps .0 + 1)
+  turns-fit = record { fits = omega (arith, turns-most) }
+
+  pub lead-steps-fit : Fits w64 ((2 ^ 33 / f .steps .0 + 1) * f .steps .0)
+  lead-steps-fit = record { fits = omega (arith, lead-steps) }
+
+  pub lead-units-fit : Fits w64 ((2 ^ 33 / f .steps .0 + 1) * f .scale .0)
+  lead-units-fit = record { fits = omega (arith, lead-units) }
+
+pub lead-is : (f : InForce) → record { steps = (2 ^ 33 / f .steps .0 + 1) * f .steps .0; units = (2 ^ 33 / f .steps .0 + 1) * f .scale .0 } ≡ leadOf f
+unfolding leadOf
+lead-is f = refl
+
+pub ruleset leads = (turns-fit, lead-steps-fit, lead-units-fit, lead-is)
+
+-- ---- a move in units
+module _ (f : InForce) (s : Sound f) (d : ℤ) where
+  module _ (fits : SFits w64 d) (small : natAbs d ≤ 2 ^ 31) (lead : Lead) (lead-by : lead ≡ leadOf f) where
+    steps-by : lead .steps ≡ turnsOf f * f .steps .0
+    unfolding leadOf
+    steps-by = ap (λ (l : Lead). l .steps) lead-by
+
+    units-by : lead .units ≡ turnsOf f * f .scale .0
+    unfolding leadOf
+    units-by = ap (λ (l : Lead). l .units) lead-by
+
+    pub steps-cast : SFits w64 (pos (lead .steps))
+    steps-cast = record { sfits = omega (arith, steps-by, lead-steps f s) }
+
+    pub units-cast : SFits w64 (pos (lead .units))
+    units-cast = record { sfits = omega (arith, units-by, lead-units f s) }
+
+    abbrev sum : ℤ
+    sum = toZ w64 (ofZ w64 d) +ℤ toZ w64 (lead .steps)
+
+    sum-is : sum ≡ d +ℤ pos (lead .steps)
+    sum-is = rw (reads fits, toZ-pos w64 (lead .steps) (omega (arith, steps-by, lead-steps f s)))
+
+    sum-has : (below (d +ℤ pos (lead .steps)) ≡ 0) × (natAbs (d +ℤ pos (lead .steps)) + below d ≡ above d + lead .steps) × (natAbs (d +ℤ pos (lead .steps)) ≤ 2 ^ 34)
+    sum-has =
+        let z = d +ℤ pos (lead .steps) in
+        let a = abs-is d in
+        let b = abs-is z in
+        let g = lead-steps f s in
+        let e = steps-by in
+        let i = add-is d (pos (lead .steps)) in
+        let j = apart z in
+        let k : below z ≡ 0 = omega arith in
+        (k, omega arith, omega arith)
+
+    pub sum-fits : SFits w64 sum
+    sum-fits = rw sum-is (fits-abs _ (omega (arith, sum-has)))
+
+    sum-nat : T (nonNeg (d +ℤ pos (lead .steps))) × Fits w64 (natAbs (d +ℤ pos (lead .steps)))
+    sum-nat = to-nat {w = w64} (d +ℤ pos (lead .steps)) (sum-has .0, omega (arith, sum-has))
+
+    pub sum-above : T (nonNeg (toZ w64 (ofZ w64 sum)))
+    sum-above = rw (reads sum-fits, sum-is) (sum-nat .0)
+
+    pub sum-cast : Fits w64 (natAbs (toZ w64 (ofZ w64 sum)))
+    sum-cast = rw (reads sum-fits, sum-is) (sum-nat .1)
+
+    abbrev ahead : ℕ
+    ahead = natAbs (toZ w64 (ofZ w64 sum))
+
+    ahead-has : (ahead + below d ≡ above d + lead .steps) × (ahead ≤ 2 ^ 34)
+    ahead-has = rw (reads sum-fits, sum-is) (sum-has .1, sum-has .2)
+
+    parts-most : ahead * f .scale .0 ≤ 2 ^ 34 * 65536
+    parts-most = N.mul-le-mul (ahead-has .1) (s .scale-most)
+
+    pub parts-fit : Fits w64 (ahead * f .scale .0)
+    parts-fit = record { fits = omega (arith, parts-most) }
+
+    abbrev whole : ℕ
+    whole = ahead * f .scale .0 / f .steps .0
+
+    whole-most : whole ≤ 2 ^ 50
+    whole-most = omega (arith, N.div-le-self (ahead * f .scale .0) (f .steps .0), parts-most)
+
+    pub whole-cast : SFits w64 (pos whole)
+    whole-cast = record { sfits = omega (arith, whole-most) }
+
+    less-is : toZ w64 whole -ℤ toZ w64 (lead .units) ≡ pos whole -ℤ pos (lead .units)
+    less-is = rw (toZ-pos w64 whole (omega (arith, whole-most)), toZ-pos w64 (lead .units) (omega (arith, units-by, lead-units f s)))
+
+    pub less-fits : SFits w64 (toZ w64 whole -ℤ toZ w64 (lead .units))
+    less-fits =
+        let z = pos whole -ℤ pos (lead .units) in
+        rw less-is (fits-abs z (omega (arith, whole-most, units-by, lead-units f s, abs-is z, diff-is (pos whole) (pos (lead .units)), apart z)))
+
+    splits-so : Splits (d *ℤ pos (f .scale .0)) (pos whole -ℤ pos (lead .units)) (f .steps .0) (ahead * f .scale .0 % f .steps .0)
+    splits-so =
+        record {
+          is =
+              omega (
+                arith,
+                mul-is d (pos (f .scale .0)),
+                ap (λ (n : ℕ). n * f .scale .0) (ahead-has .0),
+                N.div-add-mod' (ahead * f .scale .0) (f .steps .0),
+                ap (λ (n : ℕ). n * f .steps .0) (diff-is (pos whole) (pos (lead .units))),
+                ap (λ (n : ℕ). n * f .scale .0) steps-by,
+                ap (λ (n : ℕ). n * f .steps .0) units-by,
+              );
+        }
+
+    pub share-is : record { whole = toZ w64 (ofZ w64 (toZ w64 whole -ℤ toZ w64 (lead .units))); part = ahead * f .scale .0 % f .steps .0 } ≡ shareOf f d
+    unfolding shareOf
+    share-is =
+        let h = N.mod-lt (ahead * f .scale .0) (s .steps-least) in
+        rw (reads less-fits, less-is, splits-whole h splits-so, splits-rest h splits-so)
+
+  pub share-most : natAbs d ≤ 2 ^ 31 → natAbs (shareOf f d .whole) ≤ 2 ^ 50
+  unfolding shareOf
+  share-most small =
+      let z = d *ℤ pos (f .scale .0) in
+      omega (arith, quotient-most z (f .steps .0), mul-le d (pos (f .scale .0)) small (s .scale-most))
+
+  pub share-part : shareOf f d .part < f .steps .0
+  unfolding shareOf
+  share-part = modulo-lt (d *ℤ pos (f .scale .0)) (s .steps-least)
+
+pub ruleset shares = (steps-cast, units-cast, sum-fits, sum-above, sum-cast, parts-fit, whole-cast, less-fits, share-is)
+
+-- ---- the rest, and one more unit where it is full
+either : (b : Bool) (x y : Share) {m : ℕ} → natAbs (x .whole) ≤ m → natAbs (y .whole) ≤ m → natAbs (cond b x y .whole) ≤ m
+either true x y h k = h
+either false x y h k = k
+
+module _ (f : InForce) (s : Sound f) (rest : ℕ) (by : Share) (fits : natAbs (by .whole) ≤ 2 ^ 50) where
+  whole-fits : SFits w64 (by .whole)
+  whole-fits = fits-abs (by .whole) (omega arith)
+
+  pub carried-less : rest + by .part < f .steps .0 → record { whole = toZ w64 (ofZ w64 (by .whole)); part = rest + by .part } ≡ carried f rest by
+  unfolding carried
+  carried-less h = rw (lt-ltb _ _ h, reads whole-fits)
+
+  more-most : (n : ℕ) → n ≤ 2 → natAbs (by .whole +ℤ pos n) ≤ 2 ^ 51
+  more-most n h = let z = by .whole +ℤ pos n in omega (arith, abs-is (by .whole), abs-is z, add-is (by .whole) (pos n), apart z)
+
+  pub more-fits : (n : ℕ) → n ≤ 2 → SFits w64 (toZ w64 (ofZ w64 (by .whole)) +ℤ pos n)
+  more-fits n h = rw (reads whole-fits) (fits-abs (by .whole +ℤ pos n) (omega (arith, more-most n h)))
+
+  pub carried-full : f .steps .0 ≤ rest + by .part
+      → record { whole = toZ w64 (ofZ w64 (toZ w64 (ofZ w64 (by .whole)) +ℤ pos 1)); part = rest + by .part - f .steps .0 } ≡ carried f rest by
+  unfolding carried
+  carried-full h = rw (le-ltb _ _ h, reads (more-fits 1 (omega arith)), reads whole-fits)
+
+  pub carried-most : natAbs (carried f rest by .whole) ≤ 2 ^ 51
+  unfolding carried
+  carried-most = either (ltb (rest + by .part) (f .steps .0)) _ _ (omega arith) (more-most 1 (omega arith))
+
+pub ruleset carries = (carried-less, more-fits, carried-full)
