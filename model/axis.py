@@ -1,13 +1,15 @@
 #!/usr/bin/env python3
-"""An axis by document 01, with No. 1 to 3 of document 02, apart from the Rattle code: whole numbers of any size, and the paper's own words for
+"""An axis by document 01, with No. 1 to 4 of document 02, apart from the Rattle code: whole numbers of any size, and the paper's own words for
 "modulo" and "rounded down" (Python's % and // are both rounded towards minus infinity).
 
     python3 model/axis.py            prints the calculated vectors, each call with its answer under it
     python3 model/axis.py --check    compares them with the last part of crates/vectors/stdout, the answers of its first part, by hand, with those
                                      of the model, and stdin with stdout without the answers
 
-The calls are drawn with fixed seeds, so that every run prints the same. The last section but two repeats cycles that stand in crates/vectors/stdout,
-but none of those by hand of document 02, No. 3, nor of what follows them.
+The calls are drawn with fixed seeds, so that every run prints the same. The last section but three repeats cycles that stand in
+crates/vectors/stdout, but none of those by hand of document 02, No. 3, nor of what follows them.
+
+Every batch is calculated twice, by the place and by document 02, No. 4. Where the two differ, the script fails.
 """
 import itertools
 import os
@@ -216,15 +218,32 @@ class Axis:
         if len(raws) != len(out):
             raise Refused(BUFFER)
         kept = self.place, self.last
+        units, rest = self.divided()
         positions = []
         try:
             for raw in raws:
+                units, rest = self.carried(units, rest, self.move(raw))
                 self.read_raw(raw)
                 positions.append(self.position())
+                assert (units, rest) == self.divided(), (axis_line(self), kept, raws, "units and rest")
+                assert (units + self.offset) % self.span == positions[-1], (axis_line(self), kept, raws, "position")
         except Refused:
             self.place, self.last = kept
             raise
         out[:] = positions
+
+    # document 02, No. 4: a batch by the whole units and the rest
+    def divided(self):
+        """By the place: the unshifted position, and what dividing place x M by R leaves."""
+        return self.unshifted(), self.place * self.m % self.r
+
+    def carried(self, units, rest, d):
+        """Units and rest after a move d, from the two before it and without the place."""
+        q, s = d * self.m // self.r, d * self.m % self.r  # rounded down: s is never negative
+        units, rest = units + q, rest + s
+        if rest >= self.r:
+            units, rest = units + 1, rest - self.r
+        return units % self.span, rest
 
     def velocity(self, s, t, e):
         self.standing()
@@ -468,6 +487,12 @@ def velocity_answer(a, s, t, e):
         return [f"  velocity {a.velocity(s, t, e)}"]
     except Refused as n:
         return [f"  refused {n}"]
+
+
+def list_answer(a, raws, size):
+    """The lines under a batch: the axis or the refusal, and the lent positions, each of them 7 before."""
+    out = [7] * size
+    return answer(a, lambda: a.batch(raws, out)) + [" ".join(["  list"] + [str(p) for p in out])]
 
 
 def read_answer(read):
@@ -771,6 +796,55 @@ class Script:
             link[8] = self.random.choice([FAULT, LIFE, 0xFFFF])
         self.bring(a, link)
 
+    def follow(self, a, sizes):
+        """Batches on one axis, with readings, presets and records that are brought between them."""
+        self.begin(a)
+        for size in sizes:
+            kind = self.random.random()
+            if kind < 0.15:
+                self.given(a, [None])
+            elif kind < 0.65:
+                self.shift(a)
+            self.send_list(a, size)
+            if self.random.random() < 0.5:
+                self.read_on(a)
+
+    def shift(self, a):
+        v = self.some_value(a)
+        kind = self.random.choice(["preset", "change"])
+        self.lines.append(f"{kind}   {v}")
+        self.calls += 1
+        self.lines += answer(a, lambda: a.set_preset(v, kind == "change"))
+
+    def read_on(self, a):
+        """One reading more: it shows that the batch has left the place as it should."""
+        (raw,) = self.raws(a, 1)
+        self.lines.append(f"number   {raw}")
+        self.calls += 1
+        self.lines += answer(a, lambda: a.read_raw(raw))
+
+    def send_list(self, a, size):
+        """A batch, some refused at one entry or for the length of the lent list."""
+        raws = self.raws(a, size)
+        if raws and self.random.random() < 0.12:
+            n = self.random.choice([size - 1, self.random.randrange(size)])
+            before = raws[n - 1] if n else a.last
+            raws[n] = self.random.choice([a.c, (before + a.c // 2) % a.c])
+        lent = max(0, size + self.random.choice([0] * 18 + [1, -1]))
+        self.lines.append(" ".join(["list    ", str(lent)] + [str(raw) for raw in raws]))
+        self.calls += 1
+        self.lines += list_answer(a, raws, lent)
+
+    def raws(self, a, size):
+        """Raw numbers, each less than half the range from the one before: single steps, the longest moves, whole turns, any."""
+        most, at, raws = (a.c - 1) // 2, a.last, []
+        for _ in range(size):
+            any_move = self.random.randint(-most, most)
+            move = self.random.choice([-1, 1, -most, most, -a.r, a.r, any_move, any_move, any_move])
+            at = (at + max(-most, min(most, move))) % a.c
+            raws.append(at)
+        return raws
+
     def begin(self, a):
         self.lines.append(axis_line(a))
         a.last = 0
@@ -805,6 +879,28 @@ def large(rng):
     total = rng.choice([units, units * 32768, rng.randint(units, units * 32768)])
     octet = (32 if class4 else 0) | 10 | (rng.random() < 0.4)
     return Axis(class4, 65536, 32768, octet, units, total, 1, rng.randrange(4))
+
+
+def short(rng):
+    """A small sensor, and a total range that most moves go through, often more than once."""
+    r, t = rng.randint(2, 12), rng.randint(1, 9)
+    units = rng.randint(1, r)
+    total = rng.choice([units, min(units + 1, units * t), rng.randint(units, units * t), rng.randint(units, units * t)])
+    return passing(rng, r, t, rng.choice([10, 10, 10, 10, 2, 8]), units, total)
+
+
+def widest(rng):
+    """The largest sensor, with the largest total range, the least, and any; then with scaling off."""
+    for units in (65536, 65535, rng.randint(2, 65534), 1):
+        for total in (units * 32768, units, rng.randint(units, units * 32768)):
+            yield passing(rng, 65536, 32768, 10, units, total)
+    yield passing(rng, 65536, 32768, 2, 1, 1)
+
+
+def passing(rng, r, t, octet, units, total):
+    """An axis of either class and direction, with class and scaling bit as they are given."""
+    class4, ccw = rng.random() < 0.5, rng.random() < 0.5
+    return Axis(class4, r, t, (32 if class4 else 0) | octet | ccw, units, total, 1, rng.randrange(4))
 
 
 # ---- lines that stand in the vectors, made again
@@ -871,8 +967,7 @@ def answer_to(a, line):
     if kind == "velocity":
         return velocity_answer(a, *numbers)
     if kind == "list":
-        out = [7] * numbers[0]
-        return answer(a, lambda: a.batch(numbers[1:], out)) + [" ".join(["  list"] + [str(p) for p in out])]
+        return list_answer(a, numbers[1:], numbers[0])
     calls = {"first": a.start, "number": a.read_raw, "reading": a.read, "hold": a.hold}
     calls.update(preset=lambda v: a.set_preset(v, False), change=lambda v: a.set_preset(v, True))
     return answer(a, lambda: calls[kind](*numbers))
@@ -942,6 +1037,8 @@ def vectors(by_hand):
     stays(script, random.Random(4))
     script.random = random.Random(302)
     lives(script, random.Random(5))
+    script.random = random.Random(404)
+    passes(script, random.Random(6))
     return script
 
 
@@ -988,6 +1085,14 @@ def lives(script, rng):
         script.life(a, 9)
     for n in range(4):
         script.life(of_class(rng, large if n == 3 else small, False), 8)
+
+
+def passes(script, rng):
+    script.lines.append(CALCULATED + "batches, R 2 to 12 and T 1 to 9, ranges shorter than a move among them; then the largest sensor")
+    for n in range(30):
+        script.follow(short(rng), [rng.randint(1, 12), rng.randint(1, 12), 60 if n % 6 == 5 else rng.randint(0, 12), rng.randint(1, 12)])
+    for a in widest(rng):
+        script.follow(a, [rng.randint(1, 7) for _ in range(4)])
 
 
 def of_class(rng, draw, class4):

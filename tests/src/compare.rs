@@ -3,6 +3,7 @@
 use crate::draw;
 use crate::library::{self, Answer, GUARD};
 use crate::model::{self, Axis, Batch, Telegram};
+use crate::running::{self, Kinds};
 use std::fmt::{self, Debug, Display, Formatter};
 
 /// One case and both answers to it.
@@ -56,6 +57,8 @@ pub struct Counts {
     pub position_wraps: u64,
     pub sensor_wraps: u64,
     pub differences: u64,
+    /// The same moves by document 02, No. 4.
+    pub kinds: Kinds,
 }
 
 impl Counts {
@@ -73,12 +76,23 @@ impl Counts {
     /// Goes through a call that was taken once more to see what its moves were like.
     fn note_moves(&mut self, call: &Batch) -> Result<(), u8> {
         let mut axis = Axis::start(&call.plate, &call.parameters, call.first)?;
+        self.note_running(axis, call)?;
         for raw in &call.raws {
             let before = (axis.position_rounds(), axis.sensor_rounds());
             axis.read(*raw)?;
             self.positions += 1;
             self.position_wraps += u64::from(axis.position_rounds() != before.0);
             self.sensor_wraps += u64::from(axis.sensor_rounds() != before.1);
+        }
+        Ok(())
+    }
+
+    /// The first batch in which units or rest are not those of the place is printed.
+    fn note_running(&mut self, axis: Axis, call: &Batch) -> Result<(), u8> {
+        let before = self.kinds.differences;
+        running::follow(axis, &call.raws, &mut self.kinds)?;
+        if before == 0 && self.kinds.differences > 0 {
+            println!("DIFFERENT by units and rest. Case: {call:?}");
         }
         Ok(())
     }

@@ -1,8 +1,9 @@
 //! One axis record and its link over many calls: start, readings, presets, passes, velocity and the cycles of
-//! document 01; of document 02 telegram 83 (No. 1), the preset that stays due (No. 2), and the sign of life with the
-//! errors that have a code (No. 3).
+//! document 01; of document 02 telegram 83 (No. 1), the preset that stays due (No. 2), the sign of life with the errors
+//! that have a code (No. 3), and passes by units and rest (No. 4).
 
 use crate::model::{self, bit, number, refuse_if, Axis, Parameters, Plate};
+use crate::running::{self, Kinds};
 
 /// The numbers of an axis record. `last` is the last raw number.
 #[derive(Clone, Copy, Debug)]
@@ -61,15 +62,17 @@ impl Started {
 
     /// Rule 5.
     pub fn position(&self) -> u32 {
-        let sum = i128::from(self.unshifted()) + self.numbers.offset;
+        self.shifted(self.unshifted().into())
+    }
+
+    fn shifted(&self, unshifted: i128) -> u32 {
+        let sum = unshifted + self.numbers.offset;
         u32::try_from(sum.rem_euclid(self.axis.l)).expect("L is at most 2^31")
     }
 
     /// Moves by a raw number; the answer is d.
     fn read(&mut self, raw: u32) -> Result<i128, u8> {
-        let before = self.axis.place;
-        self.axis.read(raw)?;
-        let d = self.axis.place - before;
+        let d = self.axis.read(raw)?;
         (self.numbers.place, self.numbers.last) = (reduced(&self.axis), raw);
         Ok(d)
     }
@@ -163,6 +166,14 @@ impl Device {
             positions.copy_from_slice(&each.collect::<Result<Vec<u32>, u8>>()?);
             Ok(())
         })
+    }
+
+    /// What `pass` must report into a list of this length, by document 02, No. 4. The record is left as it is.
+    pub fn running_pass(&self, raws: &[u32], length: usize, kinds: &mut Kinds) -> Result<Vec<u32>, u8> {
+        let started = self.started()?;
+        refuse_if(length != raws.len(), model::BUFFER)?;
+        let units = running::follow(started.axis, raws, kinds)?;
+        Ok(units.into_iter().map(|units| started.shifted(units)).collect())
     }
 
     pub fn preset(&mut self, value: i128, relative: bool) -> Result<(), u8> {

@@ -9,3 +9,4 @@ pub mod draw;
 #[allow(unsafe_code)] // the calls over the C interface; nowhere else
 pub mod library;
 pub mod model;
+pub mod running;

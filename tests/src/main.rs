@@ -69,7 +69,8 @@ fn run(batches: u64, telegrams: u64, seed: u64) -> bool {
     row("wraps of the position", columns, |counts| counts.position_wraps);
     row("wraps of the sensor", columns, |counts| counts.sensor_wraps);
     row("differences", columns, |counts| counts.differences);
-    columns.iter().all(|counts| counts.differences == 0)
+    row("units and rest differ", columns, |counts| counts.kinds.differences);
+    columns.iter().all(|counts| counts.differences == 0 && counts.kinds.differences == 0)
 }
 
 fn row(name: &str, columns: [&Counts; 3], count: impl Fn(&Counts) -> u64) {

@@ -1,5 +1,5 @@
 //! The rules of document 01, with the parameters of document 02, No. 3, as close to their words as Rust allows and with
-//! no regard to speed.
+//! no regard to speed. Batches are worked out by the place here; `running` has them by document 02, No. 4.
 //!
 //! All arithmetic is exact: i128 never comes near its limits here, and overflow checks are on.
 
@@ -137,6 +137,7 @@ impl Parameters {
 }
 
 /// A started axis. Letters as in document 01; there is no offset, since a batch makes no preset.
+#[derive(Clone, Copy)]
 pub struct Axis {
     pub(crate) r: i128,
     c: i128,
@@ -173,15 +174,15 @@ impl Axis {
     }
 
     /// Rule 3. The difference is known up to multiples of C; of those the one nearest to 0 is d. C/2 need not be whole,
-    /// hence the doubling.
-    pub fn read(&mut self, raw: u32) -> Result<(), u8> {
+    /// hence the doubling. The answer is d.
+    pub fn read(&mut self, raw: u32) -> Result<i128, u8> {
         let oriented = self.orient(raw)?;
         let forward = (oriented - self.oriented).rem_euclid(self.c);
         refuse_if(2 * forward == self.c, HALF_RANGE)?;
         let d = if 2 * forward < self.c { forward } else { forward - self.c };
         self.oriented = oriented;
         self.place += d;
-        Ok(())
+        Ok(d)
     }
 
     /// Place × M / R rounded down, before it is taken modulo L.

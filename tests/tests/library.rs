@@ -2,7 +2,8 @@
 
 use encoder_tests::compare::{self, demanded, Counts};
 use encoder_tests::library;
-use encoder_tests::model::{self, Batch, Parameters, Plate, Telegram};
+use encoder_tests::model::{self, Axis, Batch, Parameters, Plate, Telegram};
+use encoder_tests::running::{self, Kinds};
 use std::path::Path;
 use std::process::Command;
 
@@ -29,6 +30,9 @@ fn batches() {
     let counts = compare::batches(count("BATCHES", 1_000_000), SEED);
     assert_equal_and_full("batches", &counts, &[0, 3, 4, 5, 6, 7, 9, 10, 13, 17]);
     assert!(counts.position_wraps > 0 && counts.sensor_wraps > 0);
+    println!("by units and rest: {:?}", counts.kinds);
+    assert_eq!(counts.kinds.differences, 0, "the first batch that differs by units and rest is printed above");
+    assert!(counts.kinds.all_came() && counts.kinds.entries == counts.positions);
 }
 
 #[test]
@@ -58,8 +62,17 @@ fn longest_runs() {
             assert!(wanted.is_ok());
             let equal = library::batch(&call) == demanded(&wanted, call.positions_length);
             assert!(equal, "{:?} {:?}, moves of {way}", call.plate, call.parameters);
+            assert_eq!(by_units_and_rest(&call), wanted.expect("taken"), "{:?}, moves of {way}", call.parameters);
         }
     }
+}
+
+/// The positions of a batch that is taken, by document 02, No. 4. There is no offset, so the units are the positions.
+fn by_units_and_rest(call: &Batch) -> Vec<u32> {
+    let (axis, mut kinds) = (Axis::start(&call.plate, &call.parameters, call.first), Kinds::default());
+    let units = axis.and_then(|axis| running::follow(axis, &call.raws, &mut kinds)).expect("taken");
+    assert_eq!((kinds.differences, kinds.entries), (0, call.raws.len() as u64));
+    units.into_iter().map(|units| u32::try_from(units).expect("below L")).collect()
 }
 
 type Answer = Result<Vec<u32>, u8>;

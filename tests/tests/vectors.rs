@@ -3,13 +3,24 @@
 
 use encoder_tests::cycle::{Device, Link, Numbers};
 use encoder_tests::model::{Parameters, Plate};
+use encoder_tests::running::Kinds;
 use std::collections::BTreeMap;
 use std::fmt::Debug;
 use std::path::Path;
 use std::str::FromStr;
 
 /// Calls, by class and kind, that must be in the stored vectors at least: the test cannot pass emptily.
-const LEAST: [(&str, usize); 4] = [("4 exchange", 529), ("4 measured", 591), ("2 exchange", 572), ("2 measured", 35)];
+const LEAST: [(&str, usize); 6] = [
+    ("4 exchange", 529),
+    ("4 measured", 591),
+    ("2 exchange", 572),
+    ("2 measured", 35),
+    ("4 list", 122),
+    ("2 list", 133),
+];
+
+/// Entries of passes that must be there at least, those in front of a refusal among them.
+const ENTRIES: u64 = 1281;
 
 /// Lines that leave the axis as it is and whose answers are not calculated here.
 const PASSED_OVER: [&str; 4] = ["telegram", "block", "write", "serial"];
@@ -81,11 +92,14 @@ fn velocity(device: &Device, words: &[&str]) -> Vec<String> {
     vec![answer.map_or_else(|number| format!("  refused {number}"), |velocity| format!("  velocity {velocity}"))]
 }
 
-/// The lent positions hold 7 before the call.
-fn list(device: &mut Device, words: &[&str]) -> Vec<String> {
+/// The lent positions hold 7 before the call. The pass is worked out by document 02, No. 4, too.
+fn list(device: &mut Device, words: &[&str], kinds: &mut Kinds) -> Vec<String> {
     let mut positions = vec![7; decimal(words[0])];
     let raws: Vec<u32> = words[1..].iter().map(|word| decimal(word)).collect();
+    let running = device.running_pass(&raws, positions.len(), kinds);
     let answer = device.pass(&raws, &mut positions);
+    assert_eq!(running, answer.map(|()| positions.clone()), "left by units and rest, right by the place");
+    assert_eq!(kinds.differences, 0, "units and rest after each entry");
     vec![axis_line(device, answer), list_line("  list", &positions, |position| format!(" {position}"))]
 }
 
@@ -114,7 +128,7 @@ fn diagnosis(device: &Device, words: &[&str]) -> Vec<String> {
 }
 
 /// Carries a call out and gives the lines of its answer.
-fn answer(device: &mut Device, kind: &str, words: &[&str]) -> Vec<String> {
+fn answer(device: &mut Device, kind: &str, words: &[&str], kinds: &mut Kinds) -> Vec<String> {
     let answer = match kind {
         "first" => device.start(decimal(words[0]), decimal(words[1])),
         "reading" => device.reading(decimal(words[0]), decimal(words[1])),
@@ -122,7 +136,7 @@ fn answer(device: &mut Device, kind: &str, words: &[&str]) -> Vec<String> {
         "preset" | "change" => device.preset(decimal(words[0]), kind == "change"),
         "hold" => device.hold(decimal(words[0])),
         "velocity" => return velocity(device, words),
-        "list" => return list(device, words),
+        "list" => return list(device, words, kinds),
         "exchange" | "measured" => return cycle(device, kind == "measured", words),
         _ => panic!("unknown call"),
     };
@@ -140,10 +154,14 @@ impl Drop for Line<'_> {
     }
 }
 
-/// Replays a text and counts the calls, by class and kind, whose answers are those of the model.
 fn replay(text: &str) -> BTreeMap<String, usize> {
+    replay_passes(text).0
+}
+
+/// Replays a text and counts the calls, by class and kind, whose answers are those of the model, and the moves in passes.
+fn replay_passes(text: &str) -> (BTreeMap<String, usize>, Kinds) {
     let lines: Vec<&str> = text.lines().collect();
-    let (mut axis, mut counts) = (None, BTreeMap::new());
+    let (mut axis, mut counts, mut kinds) = (None, BTreeMap::new(), Kinds::default());
     for (index, call) in lines.iter().enumerate() {
         let _line = Line(index + 1, call);
         let words: Vec<&str> = call.split_whitespace().collect();
@@ -164,24 +182,29 @@ fn replay(text: &str) -> BTreeMap<String, usize> {
                 assert_eq!(stored.len(), 2, "lines of a diagnosis");
                 assert_eq!(stored[..lines.len()], lines, "left as stored, right as calculated");
             }
-            kind => assert_eq!(stored, answer(device, kind, &words[1..]), "left as stored, right as calculated"),
+            kind => {
+                let lines = answer(device, kind, &words[1..], &mut kinds);
+                assert_eq!(stored, lines, "left as stored, right as calculated");
+            }
         }
         let class = if device.parameters.class4 == 1 { 4 } else { 2 };
         *counts.entry(format!("{class} {}", words[0])).or_default() += 1;
     }
-    counts
+    (counts, kinds)
 }
 
 #[test]
 fn stored_answers() {
     let path = Path::new(env!("CARGO_MANIFEST_DIR")).join("../crates/vectors/stdout");
-    let counts = replay(&std::fs::read_to_string(path).expect("crates/vectors/stdout is there"));
+    let (counts, kinds) = replay_passes(&std::fs::read_to_string(path).expect("crates/vectors/stdout is there"));
     println!("calls by class and kind: {counts:?}");
     for (kind, least) in LEAST {
         let count = counts.get(kind).copied().unwrap_or(0);
         println!("class {kind}: {count} calls calculated again");
         assert!(count >= least, "class {kind}: at least {least} wanted");
     }
+    println!("passes by units and rest: {kinds:?}");
+    assert!(kinds.all_came() && kinds.entries >= ENTRIES, "every kind of move in passes, and {ENTRIES} entries");
 }
 
 #[test]
