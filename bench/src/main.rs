@@ -17,7 +17,8 @@ use std::time::Instant;
 const FIRST: u32 = 204_800;
 const PLATE: Plate = Plate { steps: 4096, turns: 4096 };
 const SIZES: [usize; 3] = [1_000, 100_000, 10_000_000];
-const WHO: [(&str, Batch); 3] = [("library", linked), ("plain", written::plain), ("tuned", written::tuned)];
+const WHO: [(&str, Batch); 4] =
+    [("library", linked), ("plain", written::plain), ("tuned", written::tuned), ("running", written::running)];
 
 type Batch = fn(Plate, Parameters, u32, &[u32], &mut [u32]) -> u8;
 
@@ -88,10 +89,10 @@ fn readings(kind: Kind, size: usize) -> Vec<u32> {
 }
 
 /// The medians of the times of each, taken in turns.
-fn times(kind: Kind, size: usize) -> [f64; 3] {
+fn times(kind: Kind, size: usize) -> [f64; 4] {
     let (sent, raws) = (parameters(kind), readings(kind, size));
-    let mut lists = [vec![0; size], vec![0; size], vec![0; size]];
-    let mut taken = [const { Vec::new() }; 3];
+    let mut lists = [const { Vec::new() }; 4].map(|_: Vec<u32>| vec![0; size]);
+    let mut taken = [const { Vec::new() }; 4];
     for round in 0..=(30_000_000 / size).clamp(9, 3_001) {
         for (i, (name, batch)) in WHO.iter().enumerate() {
             let begin = Instant::now();
@@ -103,7 +104,7 @@ fn times(kind: Kind, size: usize) -> [f64; 3] {
             }
         }
     }
-    assert!(lists[0] == lists[1] && lists[0] == lists[2], "the positions differ");
+    assert!(lists[1..].iter().all(|list| *list == lists[0]), "the positions differ");
     taken.map(|mut list| {
         list.sort_by(f64::total_cmp);
         list[list.len() / 2]
@@ -111,13 +112,13 @@ fn times(kind: Kind, size: usize) -> [f64; 3] {
 }
 
 fn compare_times() {
-    println!("time of the hand-written batch by that of the library, plain and tuned");
-    println!("{:<8}{:<5}{:<10}{:>16}{:>16}{:>16}", "scaling", "way", "walk", SIZES[0], SIZES[1], SIZES[2]);
+    println!("time of the hand-written batch by that of the library: plain, tuned and running");
+    println!("{:<8}{:<5}{:<10}{:>23}{:>23}{:>23}", "scaling", "way", "walk", SIZES[0], SIZES[1], SIZES[2]);
     for kind in kinds() {
         print!("{:<8}{:<5}{:<10}", kind.scaling, kind.way, kind.walk);
         for size in SIZES {
-            let [library, plain, tuned] = times(kind, size);
-            print!("{:>9.2} {:>6.2}", plain / library, tuned / library);
+            let [library, plain, tuned, running] = times(kind, size);
+            print!("{:>9.2} {:>6.2} {:>6.2}", plain / library, tuned / library, running / library);
         }
         println!();
     }
@@ -127,7 +128,7 @@ fn compare_times() {
 fn once(who: &str, kind: Kind, size: usize) {
     let (raws, mut positions) = (black_box(readings(kind, size)), black_box(vec![0; size]));
     if who != "none" {
-        let (_, batch) = WHO.iter().find(|(name, _)| *name == who).expect("library, plain, tuned or none");
+        let (_, batch) = WHO.iter().find(|(name, _)| *name == who).expect("library, plain, tuned, running or none");
         assert_eq!(batch(PLATE, parameters(kind), FIRST, &raws, &mut positions), 0);
     }
 }
@@ -150,7 +151,7 @@ fn counted(who: &str, kind: Kind, size: usize) -> f64 {
 fn compare_instructions() {
     const SIZE: usize = 30_000;
     println!("instructions for a reading");
-    println!("{:<8}{:<5}{:<10}{:>10}{:>10}{:>10}", "scaling", "way", "walk", WHO[0].0, WHO[1].0, WHO[2].0);
+    println!("{:<8}{:<5}{:<10}{:>10}{:>10}{:>10}{:>10}", "scaling", "way", "walk", WHO[0].0, WHO[1].0, WHO[2].0, WHO[3].0);
     for kind in kinds() {
         print!("{:<8}{:<5}{:<10}", kind.scaling, kind.way, kind.walk);
         let drawing = counted("none", kind, SIZE);

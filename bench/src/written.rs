@@ -1,7 +1,8 @@
 //! The same work by hand in Rust: start and batch by the rules of documents 01 and 02, the readings looked through before any position is written.
-//! Twice: as one writes it down, and tuned as far as the same method goes.
+//! Three times: as one writes it down, tuned as far as the same method goes, and tuned with whole units and rest as running values.
 
 use encoder_tests::model::{Parameters, Plate};
+use std::hint::black_box;
 
 /// What plate and parameters put in force: R, C, M, L and the direction.
 struct Force {
@@ -127,7 +128,8 @@ fn way<const REVERSED: bool>(c: u64, last: u64, raw: u64) -> u64 {
     }
 }
 
-fn tuned_on<const REVERSED: bool>(f: &Force, first: u32, raws: &[u32], positions: &mut [u32]) -> u8 {
+/// The first refusal among the readings, or 0.
+fn refused<const REVERSED: bool>(f: &Force, first: u32, raws: &[u32]) -> u8 {
     let mut last = u64::from(first);
     for &raw in raws {
         let raw = u64::from(raw);
@@ -138,6 +140,14 @@ fn tuned_on<const REVERSED: bool>(f: &Force, first: u32, raws: &[u32], positions
             return 10;
         }
         last = raw;
+    }
+    0
+}
+
+fn tuned_on<const REVERSED: bool>(f: &Force, first: u32, raws: &[u32], positions: &mut [u32]) -> u8 {
+    let refusal = refused::<REVERSED>(f, first, raws);
+    if refusal != 0 {
+        return refusal;
     }
     let ring = f.r * f.l;
     let mut place = way::<REVERSED>(f.c, 0, u64::from(first)) % ring;
@@ -153,5 +163,46 @@ fn tuned_on<const REVERSED: bool>(f: &Force, first: u32, raws: &[u32], positions
         last = u64::from(raw);
         *position = (place * f.m / f.r % f.l) as u32;
     }
+    0
+}
+
+/// Tuned, with whole units and rest as running values (document 02, request 4). The place is told from them at the end by the total ranges that the
+/// units have gone through.
+pub fn running(plate: Plate, sent: Parameters, first: u32, raws: &[u32], positions: &mut [u32]) -> u8 {
+    match begin(plate, sent, first, raws, positions) {
+        Err(number) => number,
+        Ok(f) if f.reversed => running_on::<true>(&f, first, raws, positions),
+        Ok(f) => running_on::<false>(&f, first, raws, positions),
+    }
+}
+
+fn running_on<const REVERSED: bool>(f: &Force, first: u32, raws: &[u32], positions: &mut [u32]) -> u8 {
+    let refusal = refused::<REVERSED>(f, first, raws);
+    if refusal != 0 {
+        return refusal;
+    }
+    let (r, c, m, l) = (f.r, f.c, f.m, f.l);
+    let parts = way::<REVERSED>(c, 0, u64::from(first)) % (r * l) * m;
+    let (mut rest, mut units, mut ranges) = (parts % r, (parts / r % l) as i64, parts / r / l);
+    // A move and these turns are positive, and leave the same rest.
+    let turns = (1 << 33) / r + 1;
+    let (lead, whole) = (turns * r, (turns * m) as i64);
+    let mut last = u64::from(first);
+    for (position, &raw) in positions.iter_mut().zip(raws) {
+        let raw = u64::from(raw);
+        let ahead = way::<REVERSED>(c, last, raw);
+        last = raw;
+        let parts = (lead + ahead - if 2 * ahead < c { 0 } else { c }) * m;
+        let sum = rest + parts % r;
+        let full = sum >= r;
+        rest = if full { sum - r } else { sum };
+        units += (parts / r) as i64 - whole + i64::from(full);
+        if !(0..l as i64).contains(&units) {
+            ranges = (ranges as i64 + units.div_euclid(l as i64)).rem_euclid(m as i64) as u64;
+            units = units.rem_euclid(l as i64);
+        }
+        *position = units as u32;
+    }
+    black_box(((ranges * l + units as u64) * r + rest) / m);
     0
 }
