@@ -33,7 +33,7 @@ module _ (f : InForce) (s : Sound f) where
   pub lead-units-fit : Fits w64 ((2 ^ 33 / f .steps .0 + 1) * f .scale .0)
   lead-units-fit = record { fits = omega (arith, lead-units) }
 
-pub lead-is : (f : InForce) → record { steps = (2 ^ 33 / f .steps .0 + 1) * f .steps .0; units = (2 ^ 33 / f .steps .0 + 1) * f .scale .0 } ≡ leadOf f
+pub lead-is : (f : InForce) → record { steps = record { 0 = (2 ^ 33 / f .steps .0 + 1) * f .steps .0 }; units = (2 ^ 33 / f .steps .0 + 1) * f .scale .0 } ≡ leadOf f
 unfolding leadOf
 lead-is f = refl
 
@@ -42,34 +42,34 @@ pub ruleset leads = (turns-fit, lead-steps-fit, lead-units-fit, lead-is)
 -- ---- a move in units
 module _ (f : InForce) (s : Sound f) (d : ℤ) where
   module _ (fits : SFits w64 d) (small : natAbs d ≤ 2 ^ 31) (lead : Lead) (lead-by : lead ≡ leadOf f) where
-    steps-by : lead .steps ≡ turnsOf f * f .steps .0
+    steps-by : lead .steps .0 ≡ turnsOf f * f .steps .0
     unfolding leadOf
-    steps-by = ap (λ (l : Lead). l .steps) lead-by
+    steps-by = ap (λ (l : Lead). l .steps .0) lead-by
 
     units-by : lead .units ≡ turnsOf f * f .scale .0
     unfolding leadOf
     units-by = ap (λ (l : Lead). l .units) lead-by
 
-    pub steps-cast : SFits w64 (pos (lead .steps))
+    pub steps-cast : SFits w64 (pos (lead .steps .0))
     steps-cast = record { sfits = omega (arith, steps-by, lead-steps f s) }
 
     pub units-cast : SFits w64 (pos (lead .units))
     units-cast = record { sfits = omega (arith, units-by, lead-units f s) }
 
     abbrev sum : ℤ
-    sum = toZ w64 (ofZ w64 d) +ℤ toZ w64 (lead .steps)
+    sum = toZ w64 (ofZ w64 d) +ℤ toZ w64 (lead .steps .0)
 
-    sum-is : sum ≡ d +ℤ pos (lead .steps)
-    sum-is = rw (reads fits, toZ-pos w64 (lead .steps) (omega (arith, steps-by, lead-steps f s)))
+    sum-is : sum ≡ d +ℤ pos (lead .steps .0)
+    sum-is = rw (reads fits, toZ-pos w64 (lead .steps .0) (omega (arith, steps-by, lead-steps f s)))
 
-    sum-has : (below (d +ℤ pos (lead .steps)) ≡ 0) × (natAbs (d +ℤ pos (lead .steps)) + below d ≡ above d + lead .steps) × (natAbs (d +ℤ pos (lead .steps)) ≤ 2 ^ 34)
+    sum-has : (below (d +ℤ pos (lead .steps .0)) ≡ 0) × (natAbs (d +ℤ pos (lead .steps .0)) + below d ≡ above d + lead .steps .0) × (natAbs (d +ℤ pos (lead .steps .0)) ≤ 2 ^ 34)
     sum-has =
-        let z = d +ℤ pos (lead .steps) in
+        let z = d +ℤ pos (lead .steps .0) in
         let a = abs-is d in
         let b = abs-is z in
         let g = lead-steps f s in
         let e = steps-by in
-        let i = add-is d (pos (lead .steps)) in
+        let i = add-is d (pos (lead .steps .0)) in
         let j = apart z in
         let k : below z ≡ 0 = omega arith in
         (k, omega arith, omega arith)
@@ -77,8 +77,8 @@ module _ (f : InForce) (s : Sound f) (d : ℤ) where
     pub sum-fits : SFits w64 sum
     sum-fits = rw sum-is (fits-abs _ (omega (arith, sum-has)))
 
-    sum-nat : T (nonNeg (d +ℤ pos (lead .steps))) × Fits w64 (natAbs (d +ℤ pos (lead .steps)))
-    sum-nat = to-nat {w = w64} (d +ℤ pos (lead .steps)) (sum-has .0, omega (arith, sum-has))
+    sum-nat : T (nonNeg (d +ℤ pos (lead .steps .0))) × Fits w64 (natAbs (d +ℤ pos (lead .steps .0)))
+    sum-nat = to-nat {w = w64} (d +ℤ pos (lead .steps .0)) (sum-has .0, omega (arith, sum-has))
 
     pub sum-above : T (nonNeg (toZ w64 (ofZ w64 sum)))
     sum-above = rw (reads sum-fits, sum-is) (sum-nat .0)
@@ -89,7 +89,7 @@ module _ (f : InForce) (s : Sound f) (d : ℤ) where
     abbrev ahead : ℕ
     ahead = natAbs (toZ w64 (ofZ w64 sum))
 
-    ahead-has : (ahead + below d ≡ above d + lead .steps) × (ahead ≤ 2 ^ 34)
+    ahead-has : (ahead + below d ≡ above d + lead .steps .0) × (ahead ≤ 2 ^ 34)
     ahead-has = rw (reads sum-fits, sum-is) (sum-has .1, sum-has .2)
 
     parts-most : ahead * f .scale .0 ≤ 2 ^ 34 * 65536

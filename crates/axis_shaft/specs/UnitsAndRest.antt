@@ -55,7 +55,7 @@ pub record Within (f : InForce) (k : Running) : Type 0 where
 
 -- what a batch works out once: whole turns of 2^33 steps or more, in steps and in units
 unfoldable pub leadOf : InForce → Lead
-leadOf f = record { steps = (2 ^ 33 / f .steps .0 + 1) * f .steps .0; units = (2 ^ 33 / f .steps .0 + 1) * f .scale .0 }
+leadOf f = record { steps = record { 0 = (2 ^ 33 / f .steps .0 + 1) * f .steps .0 }; units = (2 ^ 33 / f .steps .0 + 1) * f .scale .0 }
 
 -- ---- over a list of readings
 -- the running values after each entry

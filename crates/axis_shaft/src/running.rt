@@ -31,7 +31,7 @@ pub struct Share {
 // Whole turns, in steps and in units. A move and so many turns are a positive number and leave the same part. It has more than 32 bits for either
 // sign of the move, so that the same division does for all.
 pub struct Lead {
-    pub steps: u64,
+    pub steps: Steps,
     pub units: u64,
 }
 
@@ -42,7 +42,7 @@ fn lead_of(rules: InForce) -> Lead
 {
     let turns = 0x2_0000_0000 / rules.steps.0 + 1;
     Lead {
-        steps: turns * rules.steps.0,
+        steps: Steps(turns * rules.steps.0),
         units: turns * rules.scale.0 as u64,
     }
 }
@@ -53,7 +53,7 @@ fn share_of(rules: InForce, lead: Lead, d: i64) -> Share
     ensures { λ r. ⌜ r ≡ shareOf rules d ⌝ }
 {
     let steps = rules.steps.0;
-    let ahead = (d + lead.steps as i64) as u64;
+    let ahead = (d + lead.steps.0 as i64) as u64;
     let parts = ahead * rules.scale.0 as u64;
     Share {
         whole: (parts / steps) as i64 - lead.units as i64,
