@@ -166,8 +166,8 @@ fn tuned_on<const REVERSED: bool>(f: &Force, first: u32, raws: &[u32], positions
     0
 }
 
-/// Tuned, with whole units and rest as running values (document 02, request 4). The place is told from them at the end by the total ranges that the
-/// units have gone through.
+/// Tuned further: a look through the readings without a branch, then whole units and rest as running values (document 02, request 4). The place is
+/// told from them at the end by the total ranges that the units have gone through.
 pub fn running(plate: Plate, sent: Parameters, first: u32, raws: &[u32], positions: &mut [u32]) -> u8 {
     match begin(plate, sent, first, raws, positions) {
         Err(number) => number,
@@ -176,10 +176,22 @@ pub fn running(plate: Plate, sent: Parameters, first: u32, raws: &[u32], positio
     }
 }
 
+/// Some reading is C or above, or C / 2 from the one before. No branch on a reading, so that several are looked at together.
+fn doubtful(c: u32, first: u32, raws: &[u32]) -> bool {
+    let (mut last, mut found) = (first, false);
+    for &raw in raws {
+        found |= raw >= c || raw.abs_diff(last) == c / 2;
+        last = raw;
+    }
+    found
+}
+
 fn running_on<const REVERSED: bool>(f: &Force, first: u32, raws: &[u32], positions: &mut [u32]) -> u8 {
-    let refusal = refused::<REVERSED>(f, first, raws);
-    if refusal != 0 {
-        return refusal;
+    if doubtful(f.c as u32, first, raws) {
+        let refusal = refused::<REVERSED>(f, first, raws);
+        if refusal != 0 {
+            return refusal;
+        }
     }
     let (r, c, m, l) = (f.r, f.c, f.m, f.l);
     let parts = way::<REVERSED>(c, 0, u64::from(first)) % (r * l) * m;
