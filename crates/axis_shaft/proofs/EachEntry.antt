@@ -5,7 +5,7 @@ use Rattle.integer.specs.{_modulo_, _quotient_}
 use Rattle.integer.proofs.{add-is, mul-is, modulo-lt, modulo-has, modulo-is, Splits, splits, around}
 use Rattle.encoder.specs.{InForce, Sound}
 use Rattle.axis_shaft.specs.{Shaft, Running, Share, Inside, period, moveOf, movedTo, unshifted, Within, shareOf, carried, onward, ranTo, runningOf, shaftOf, runs, shafts, positionAt, positionsIn}
-use Rattle.axis_shaft.proofs.{PlaceLaws.period-least, RunningLaws.ranges-on}
+use Rattle.axis_shaft.proofs.{PlaceLaws.period-least}
 use lib.{Arith.digits-mod}
 use native.Mathlib.Nat as N
 
@@ -54,6 +54,16 @@ module _ (f : InForce) (s : Sound f) where
       (rw (N.mul-assoc R L M) at (N.mul-lt-mul-of-pos-right (modulo-lt y (period-least f s)) (s .scale-least)))
       (omega (arith, ap (λ (n : ℕ). n * M) (h .2), ap (λ (n : ℕ). n * M) (add-is (pos place) d), add-is (pos (place * M)) (d *ℤ pos M), mul-is d (pos M))))
 
+  -- units and ranges are the digits of what goes around L × M
+  ranges-on : (ranges units : ℕ) (w : ℤ)
+      → (pos (ranges * L + units) +ℤ w) modulo (L * M) ≡ (pos ranges +ℤ (pos units +ℤ w) quotient L) modulo M * L + (pos units +ℤ w) modulo L
+  ranges-on ranges units w =
+      let z = pos units +ℤ w in
+      let q = z quotient L in
+      around (modulo-lt z (s .span-least))
+      (record { is = omega (arith, splits z (s .span-least) .is, add-is (pos (ranges * L + units)) w, add-is (pos units) w, ap (λ (x : ℕ). x * L) (add-is (pos ranges) q)) })
+      (s .scale-least)
+
   -- one entry
   pub entry : (k : Shaft) (raw : ℕ) → ranTo f (runningOf f k) raw ≡ runningOf f (movedTo f k raw)
   unfolding ranTo onward runningOf unshifted movedTo
@@ -81,7 +91,7 @@ module _ (f : InForce) (s : Sound f) where
         around (c .lt) h (N.mul-pos (s .span-least) (s .scale-least)),
         digits-mod _ (c .lt),
         digits-div _ (c .lt),
-        ranges-on f s (x / R / L) (x / R % L) (by .whole),
+        ranges-on (x / R / L) (x / R % L) (by .whole),
         digits-mod _ u-lt,
         digits-div _ u-lt,
       )

@@ -2,6 +2,7 @@ pub mod SensorLaws
 pub mod ShorterWay
 pub mod PlaceLaws
 pub mod ShaftLaws
+pub mod AheadLaws
 pub mod ShareLaws
 pub mod RunningLaws
 pub mod EachEntry

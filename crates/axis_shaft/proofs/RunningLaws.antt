@@ -1,83 +1,44 @@
 -- Units and rest through a batch, in machine words. Units that stay within the total range need no remainder by L, nor do positions; where a total
--- range ends, the units go around L.
-use Rattle.integer.specs.Base.{_≡_, refl, sym, _∙_, ap, true, false≢true, _&&_, ℕ, _+_, _*_, _/_, _%_, _^_, _≤_, _<_, arith, T, ltb, leb, ℤ, pos, negsuc, natAbs, _+ℤ_}
-use Rattle.integer.specs.Base.{ltZ, nonNeg, ltb-true, w64, w32, Fits, SFits, toZ, ofZ, toZ-pos, digits-div}
-use Rattle.integer.specs.{_modulo_, _quotient_}
-use Rattle.integer.proofs.{apart, add-is, of-eq, reads, abs-is, fits-abs, modulo-lt, modulo-is, Splits, splits, splits-rest, splits-whole, around}
+-- range ends, the units are counted ahead by whole rounds of M total ranges and divided by L as a natural number.
+use Rattle.integer.specs.Base.{_≡_, refl, sym, _∙_, ap, true, false≢true, _&&_, ℕ, _+_, _*_, _/_, _%_, _^_, _≤_, _<_, arith, T, ltb, leb, ℤ, pos, negsuc, natAbs, _+ℤ_, _-ℤ_}
+use Rattle.integer.specs.Base.{ltZ, nonNeg, ltb-true, w64, w32, Fits, SFits, toZ, ofZ, toZ-pos}
+use Rattle.integer.specs.{_modulo_}
+use Rattle.integer.proofs.{above, below, apart, add-is, diff-is, of-eq, reads, abs-is, fits-abs, modulo-lt, modulo-is, Splits, splits-rest, splits-whole}
 use Rattle.ring.specs.{onRing}
 use Rattle.ring.proofs.{on-ring}
 use Rattle.encoder.specs.{InForce, Sound}
 use Rattle.encoder.proofs.{and-split}
-use Rattle.axis_shaft.specs.{Shaft, Running, Share, Within, shareOf, carried, onward, ranTo, runningOf, shaftOf, unshifted, moveOf}
+use Rattle.axis_shaft.specs.{Shaft, Running, Share, Lead, Within, leadOf, shareOf, carried, onward, ranTo, runningOf, shaftOf, unshifted, moveOf}
 use Rattle.axis_shaft.proofs.{SensorLaws.move-fits, SensorLaws.move-most}
-use Rattle.axis_shaft.proofs.{ShareLaws.share-most, ShareLaws.share-part, ShareLaws.carried-most}
+use Rattle.axis_shaft.proofs.{ShareLaws.share-most, ShareLaws.share-part, ShareLaws.carried-most, ShareLaws.roundOf, ShareLaws.roundsOf, ShareLaws.round-most, ShareLaws.lead-rounds}
+use Rattle.axis_shaft.proofs.AheadLaws.{ahead-fits, ahead-above, ahead-cast, ahead-is}
 use lib.{Arith.digits-lt, Signed.leZ}
 use native.Mathlib.Nat as N
-
--- ---- a total range ends: whole units go around M × L
-module _ (f : InForce) (s : Sound f) where
-  all-most : f .scale .0 * f .span .0 ≤ 65536 * 2 ^ 31
-  all-most = N.mul-le-mul (s .scale-most) (s .span-most)
-
-  pub round-fits : Fits w64 (f .scale .0 * f .span .0)
-  round-fits = record { fits = omega (arith, all-most) }
-
-  -- units and ranges are the digits of what goes around L × M
-  pub ranges-on : (ranges units : ℕ) (w : ℤ)
-      → (pos (ranges * f .span .0 + units) +ℤ w) modulo (f .span .0 * f .scale .0)
-      ≡ (pos ranges +ℤ (pos units +ℤ w) quotient f .span .0) modulo f .scale .0 * f .span .0 + (pos units +ℤ w) modulo f .span .0
-  ranges-on ranges units w =
-      let z = pos units +ℤ w in
-      let q = z quotient f .span .0 in
-      around (modulo-lt z (s .span-least))
-      (record { is = omega (arith, splits z (s .span-least) .is, add-is (pos (ranges * f .span .0 + units)) w, add-is (pos units) w, ap (λ (x : ℕ). x * f .span .0) (add-is (pos ranges) q)) })
-      (s .scale-least)
-
-  pub ring-narrow : (z : ℤ) (n : ℕ) → n ≡ onRing z (f .span .0) → Fits w32 n
-  ring-narrow z n e = record { fits = omega (arith, e, on-ring z _ (s .span-least), modulo-lt z (s .span-least), s .span-most) }
 
 module _ (f : InForce) (s : Sound f) (k : Running) (w : Within f k) where
   abbrev all : ℕ
   all = k .ranges * f .span .0 + k .units .0
 
-  all-lt : all < f .scale .0 * f .span .0
+  all-lt : all < roundOf f
   all-lt = digits-lt (w .ranges) (w .units)
 
   pub ranges-fit : Fits w64 (k .ranges * f .span .0)
-  ranges-fit = record { fits = omega (arith, all-lt, all-most f s) }
+  ranges-fit = record { fits = omega (arith, all-lt, round-most f s) }
 
   pub all-fits : Fits w64 (k .ranges * f .span .0 + k .units .0)
-  all-fits = record { fits = omega (arith, all-lt, all-most f s) }
-
-  pub around-is : (by : Share) (u n : ℕ) → SFits w64 (by .whole) → u ≡ onRing (pos (k .units .0) +ℤ toZ w64 (ofZ w64 (by .whole))) (f .span .0)
-      → n ≡ onRing (pos all +ℤ toZ w64 (ofZ w64 (by .whole))) (f .scale .0 * f .span .0)
-      → record { units = record { 0 = u }; rest = by .part; ranges = n / f .span .0; last = k .last } ≡ onward f k by
-  unfolding onward
-  around-is by u n fits u-is n-is =
-      let r-lt = modulo-lt (pos (k .units .0) +ℤ by .whole) (s .span-least) in
-      let whole = N.mul-pos (s .scale-least) (s .span-least) in
-      rw (
-        u-is,
-        n-is,
-        reads fits,
-        on-ring _ _ whole,
-        on-ring (pos (k .units .0) +ℤ by .whole) (f .span .0) (s .span-least),
-        N.mul-comm (f .scale .0) (f .span .0),
-        ranges-on f s (k .ranges) (k .units .0) (by .whole),
-        digits-div _ r-lt,
-      )
+  all-fits = record { fits = omega (arith, all-lt, round-most f s) }
 
   -- ---- the place again
   pub parts-of-fit : Fits w64 ((k .ranges * f .span .0 + k .units .0) * f .steps .0)
   parts-of-fit = record { fits = omega (arith, place-parts) }
     where
       place-parts : (all * f .steps .0 + k .rest < f .scale .0 * f .span .0 * f .steps .0) × (f .scale .0 * f .span .0 * f .steps .0 ≤ 65536 * 2 ^ 31 * 65536)
-      place-parts = (digits-lt all-lt (w .rest), N.mul-le-mul (all-most f s) (s .steps-most))
+      place-parts = (digits-lt all-lt (w .rest), N.mul-le-mul (round-most f s) (s .steps-most))
 
   pub parts-all-fit : Fits w64 ((k .ranges * f .span .0 + k .units .0) * f .steps .0 + k .rest)
   parts-all-fit =
       let g = digits-lt {c = f .steps .0} all-lt (w .rest) in
-      let h = N.mul-le-mul (all-most f s) (s .steps-most) in
+      let h = N.mul-le-mul (round-most f s) (s .steps-most) in
       record { fits = omega arith }
 
 pub shaft-is : (f : InForce) (k : Running)
@@ -127,6 +88,77 @@ module _ (f : InForce) (s : Sound f) (k : Running) (w : Within f k) (by : Share)
         let none : (pos (k .ranges) +ℤ pos 0) modulo f .scale .0 ≡ k .ranges = modulo-is (pos (k .ranges) +ℤ pos 0) 0 0 (w .ranges) (omega arith) in
         rw (there, splits-rest (goes-on .2) h, splits-whole (goes-on .2) h, none)
 
+  -- a total range ends: counted ahead by whole rounds, the units are a natural number, and leave what they would have left
+  module _ (lead : Lead) (lead-by : lead ≡ leadOf f) where
+    rounds-by : lead .rounds ≡ roundsOf f * roundOf f
+    unfolding leadOf
+    rounds-by = ap (λ (l : Lead). l .rounds) lead-by
+
+    pub rounds-cast : SFits w64 (pos (lead .rounds))
+    rounds-cast = record { sfits = omega (arith, rounds-by, lead-rounds f s) }
+
+    rounds-lead : (natAbs to ≤ lead .rounds) × (lead .rounds ≤ 2 ^ 53)
+    rounds-lead =
+        let z = pos (k .units .0) +ℤ by .whole in
+        let g = lead-rounds f s in
+        let e = rounds-by in
+        let h : natAbs z ≤ lead .rounds
+        = omega (arith, w .units, s .span-most, abs-is (by .whole), abs-is z, add-is (pos (k .units .0)) (by .whole), apart z) in
+        (rw to-is h, omega arith)
+
+    most : lead .rounds ≤ 2 ^ 61
+    most = omega (arith, rounds-lead .1)
+
+    abbrev sum : ℤ
+    sum = toZ w64 (ofZ w64 to) +ℤ toZ w64 (lead .rounds)
+
+    pub sum-fits : SFits w64 sum
+    sum-fits = ahead-fits to (lead .rounds) to-fits (rounds-lead .0) most
+
+    pub sum-above : T (nonNeg (toZ w64 (ofZ w64 sum)))
+    sum-above = ahead-above to (lead .rounds) to-fits (rounds-lead .0) most
+
+    pub sum-cast : Fits w64 (natAbs (toZ w64 (ofZ w64 sum)))
+    sum-cast = ahead-cast to (lead .rounds) to-fits (rounds-lead .0) most
+
+    abbrev ahead : ℕ
+    ahead = natAbs (toZ w64 (ofZ w64 sum))
+
+    ahead-has : (ahead + below to ≡ above to + lead .rounds) × (ahead ≤ 2 ^ 54)
+    ahead-has =
+        let e = ahead-is to (lead .rounds) to-fits (rounds-lead .0) most in
+        (e, omega (arith, abs-is to, rounds-lead))
+
+    pub units-narrow : Fits w32 (ahead % f .span .0)
+    units-narrow = record { fits = omega (arith, N.mod-lt ahead (s .span-least), s .span-most) }
+
+    pub ranges-sum-fit : Fits w64 (k .ranges + ahead / f .span .0)
+    ranges-sum-fit = record { fits = omega (arith, N.div-le-self ahead (f .span .0), ahead-has .1, w .ranges, s .scale-most) }
+
+    pub around-is : record { units = record { 0 = ahead % f .span .0 }; rest = by .part; ranges = (k .ranges + ahead / f .span .0) % f .scale .0; last = k .last } ≡ onward f k by
+    unfolding onward
+    around-is =
+        let z = pos (k .units .0) +ℤ by .whole in
+        let n = roundsOf f * f .scale .0 in
+        let q = pos (ahead / f .span .0) -ℤ pos n in
+        let lt = N.mod-lt ahead (s .span-least) in
+        let h : Splits z q (f .span .0) (ahead % f .span .0)
+        = record {
+          is = omega (
+            arith,
+            ahead-has .0,
+            of-eq to-is,
+            rounds-by,
+            N.div-add-mod' ahead (f .span .0),
+            ap (λ (x : ℕ). x * f .span .0) (diff-is (pos (ahead / f .span .0)) (pos n)),
+          );
+        } in
+        let all = k .ranges + ahead / f .span .0 in
+        let r : (pos (k .ranges) +ℤ q) modulo f .scale .0 ≡ all % f .scale .0
+        = modulo-is (pos (k .ranges) +ℤ q) (roundsOf f) (all / f .scale .0) (N.mod-lt all (s .scale-least))
+        (omega (arith, add-is (pos (k .ranges)) q, diff-is (pos (ahead / f .span .0)) (pos n), N.div-add-mod' all (f .scale .0))) in
+        rw (splits-rest lt h, splits-whole lt h, r)
+
 -- ---- the position
 module _ (f : InForce) (s : Sound f) (u : ℕ) (offset : ℤ) (u-fits : Fits w32 u) (fits : SFits w64 offset) where
   abbrev at : ℤ
@@ -153,6 +185,9 @@ module _ (f : InForce) (s : Sound f) (u : ℕ) (offset : ℤ) (u-fits : Fits w32
 
       pub position-on : natAbs (toZ w64 (ofZ w64 at)) ≡ (pos u +ℤ offset) modulo f .span .0
       position-on = rw (reads at-fits, at-is, stays .1) (sym (modulo-is (pos (stays .0)) 0 0 (stays .2) (omega arith)))
+
+  pub ring-narrow : (z : ℤ) (n : ℕ) → n ≡ onRing z (f .span .0) → Fits w32 n
+  ring-narrow z n e = record { fits = omega (arith, e, on-ring z _ (s .span-least), modulo-lt z (s .span-least), s .span-most) }
 
   pub position-round : (n : ℕ) → n ≡ onRing (pos u +ℤ toZ w64 (ofZ w64 offset)) (f .span .0) → n ≡ (pos u +ℤ offset) modulo f .span .0
   position-round n e = e ∙ rw (on-ring _ _ (s .span-least), reads fits)
@@ -191,4 +226,4 @@ module _ (f : InForce) (s : Sound f) (k : Running) (raw : ℕ) (d : ℤ) (d-is :
       unfolding ranTo
       ran-is r r-is = rw (r-is, c-is, b-is, read)
 
-pub ruleset runs = (to-fits, to-above, to-cast, onward-is, ranges-fit, all-fits, round-fits, ring-narrow, around-is, parts-of-fit, parts-all-fit, shaft-is, at-fits, at-above, at-cast, position-on, position-round, running-is, move-small, part-lt, whole-small, next-small, ran-is)
+pub ruleset runs = (to-fits, to-above, to-cast, onward-is, rounds-cast, sum-fits, sum-above, sum-cast, units-narrow, ranges-sum-fit, around-is, ranges-fit, all-fits, parts-of-fit, parts-all-fit, shaft-is, at-fits, at-above, at-cast, position-on, ring-narrow, position-round, running-is, move-small, part-lt, whole-small, next-small, ran-is)

@@ -2,14 +2,22 @@
 -- units and leave nothing. So no case depends on its sign.
 use Rattle.integer.specs.Base.{_≡_, refl, ap, Bool, true, false, cond, ℕ, _+_, _-_, _*_, _/_, _%_, _^_, _≤_, _<_, arith, T, ltb, ℤ, pos, natAbs, _+ℤ_, _-ℤ_, _*ℤ_}
 use Rattle.integer.specs.Base.{nonNeg, lt-ltb, le-ltb, w64, Fits, SFits, toZ, ofZ, toZ-pos}
-use Rattle.integer.proofs.{above, below, apart, add-is, diff-is, mul-is, reads, abs-is, fits-abs, to-nat, mul-le, modulo-lt, Splits, splits-rest, splits-whole, quotient-most}
+use Rattle.integer.proofs.{above, below, apart, add-is, diff-is, mul-is, reads, abs-is, fits-abs, mul-le, modulo-lt, Splits, splits-rest, splits-whole, quotient-most}
 use Rattle.encoder.specs.{InForce, Sound}
 use Rattle.axis_shaft.specs.{Share, Lead, shareOf, carried, leadOf}
+use Rattle.axis_shaft.proofs.AheadLaws.{ahead-fits, ahead-above, ahead-cast, ahead-is}
 use native.Mathlib.Nat as N
 
--- ---- the lead: turns of 2^33 steps or more
+-- ---- the lead: turns of 2^33 steps or more, rounds of 2^52 units or more
 abbrev turnsOf : InForce → ℕ
 turnsOf f = 2 ^ 33 / f .steps .0 + 1
+
+-- M total ranges
+abbrev pub roundOf : InForce → ℕ
+roundOf f = f .scale .0 * f .span .0
+
+abbrev pub roundsOf : InForce → ℕ
+roundsOf f = 2 ^ 52 / roundOf f + 1
 
 module _ (f : InForce) (s : Sound f) where
   turns-most : turnsOf f ≤ 2 ^ 33 + 1
@@ -33,11 +41,37 @@ module _ (f : InForce) (s : Sound f) where
   pub lead-units-fit : Fits w64 ((2 ^ 33 / f .steps .0 + 1) * f .scale .0)
   lead-units-fit = record { fits = omega (arith, lead-units) }
 
-pub lead-is : (f : InForce) → record { steps = record { 0 = (2 ^ 33 / f .steps .0 + 1) * f .steps .0 }; units = (2 ^ 33 / f .steps .0 + 1) * f .scale .0 } ≡ leadOf f
+  pub round-least : 0 < f .scale .0 * f .span .0
+  round-least = N.mul-pos (s .scale-least) (s .span-least)
+
+  pub round-most : roundOf f ≤ 65536 * 2 ^ 31
+  round-most = N.mul-le-mul (s .scale-most) (s .span-most)
+
+  pub lead-rounds : (2 ^ 52 < roundsOf f * roundOf f) × (roundsOf f * roundOf f ≤ 2 ^ 52 + 65536 * 2 ^ 31)
+  lead-rounds =
+      let e = N.div-add-mod' (2 ^ 52) (roundOf f) in
+      let h = N.mod-lt (2 ^ 52) round-least in
+      (omega arith, omega (arith, round-most))
+
+  pub round-fits : Fits w64 (f .scale .0 * f .span .0)
+  round-fits = record { fits = omega (arith, round-most) }
+
+  pub rounds-fit : Fits w64 (2 ^ 52 / (f .scale .0 * f .span .0) + 1)
+  rounds-fit = record { fits = omega (arith, N.div-le-self (2 ^ 52) (roundOf f)) }
+
+  pub lead-rounds-fit : Fits w64 ((2 ^ 52 / (f .scale .0 * f .span .0) + 1) * (f .scale .0 * f .span .0))
+  lead-rounds-fit = record { fits = omega (arith, lead-rounds) }
+
+pub lead-is : (f : InForce)
+    → record {
+      steps = record { 0 = (2 ^ 33 / f .steps .0 + 1) * f .steps .0 };
+      units = (2 ^ 33 / f .steps .0 + 1) * f .scale .0;
+      rounds = (2 ^ 52 / (f .scale .0 * f .span .0) + 1) * (f .scale .0 * f .span .0);
+    } ≡ leadOf f
 unfolding leadOf
 lead-is f = refl
 
-pub ruleset leads = (turns-fit, lead-steps-fit, lead-units-fit, lead-is)
+pub ruleset leads = (turns-fit, lead-steps-fit, lead-units-fit, round-least, round-fits, rounds-fit, lead-rounds-fit, lead-is)
 
 -- ---- a move in units
 module _ (f : InForce) (s : Sound f) (d : ℤ) where
@@ -56,41 +90,28 @@ module _ (f : InForce) (s : Sound f) (d : ℤ) where
     pub units-cast : SFits w64 (pos (lead .units))
     units-cast = record { sfits = omega (arith, units-by, lead-units f s) }
 
+    steps-lead : (natAbs d ≤ lead .steps .0) × (lead .steps .0 ≤ 2 ^ 61)
+    steps-lead = let g = lead-steps f s in let e = steps-by in (omega arith, omega arith)
+
     abbrev sum : ℤ
     sum = toZ w64 (ofZ w64 d) +ℤ toZ w64 (lead .steps .0)
 
-    sum-is : sum ≡ d +ℤ pos (lead .steps .0)
-    sum-is = rw (reads fits, toZ-pos w64 (lead .steps .0) (omega (arith, steps-by, lead-steps f s)))
-
-    sum-has : (below (d +ℤ pos (lead .steps .0)) ≡ 0) × (natAbs (d +ℤ pos (lead .steps .0)) + below d ≡ above d + lead .steps .0) × (natAbs (d +ℤ pos (lead .steps .0)) ≤ 2 ^ 34)
-    sum-has =
-        let z = d +ℤ pos (lead .steps .0) in
-        let a = abs-is d in
-        let b = abs-is z in
-        let g = lead-steps f s in
-        let e = steps-by in
-        let i = add-is d (pos (lead .steps .0)) in
-        let j = apart z in
-        let k : below z ≡ 0 = omega arith in
-        (k, omega arith, omega arith)
-
     pub sum-fits : SFits w64 sum
-    sum-fits = rw sum-is (fits-abs _ (omega (arith, sum-has)))
-
-    sum-nat : T (nonNeg (d +ℤ pos (lead .steps .0))) × Fits w64 (natAbs (d +ℤ pos (lead .steps .0)))
-    sum-nat = to-nat {w = w64} (d +ℤ pos (lead .steps .0)) (sum-has .0, omega (arith, sum-has))
+    sum-fits = ahead-fits d (lead .steps .0) fits (steps-lead .0) (steps-lead .1)
 
     pub sum-above : T (nonNeg (toZ w64 (ofZ w64 sum)))
-    sum-above = rw (reads sum-fits, sum-is) (sum-nat .0)
+    sum-above = ahead-above d (lead .steps .0) fits (steps-lead .0) (steps-lead .1)
 
     pub sum-cast : Fits w64 (natAbs (toZ w64 (ofZ w64 sum)))
-    sum-cast = rw (reads sum-fits, sum-is) (sum-nat .1)
+    sum-cast = ahead-cast d (lead .steps .0) fits (steps-lead .0) (steps-lead .1)
 
     abbrev ahead : ℕ
     ahead = natAbs (toZ w64 (ofZ w64 sum))
 
     ahead-has : (ahead + below d ≡ above d + lead .steps .0) × (ahead ≤ 2 ^ 34)
-    ahead-has = rw (reads sum-fits, sum-is) (sum-has .1, sum-has .2)
+    ahead-has =
+        let e = ahead-is d (lead .steps .0) fits (steps-lead .0) (steps-lead .1) in
+        (e, omega (arith, abs-is d, steps-by, lead-steps f s))
 
     parts-most : ahead * f .scale .0 ≤ 2 ^ 34 * 65536
     parts-most = N.mul-le-mul (ahead-has .1) (s .scale-most)

@@ -53,9 +53,14 @@ pub record Within (f : InForce) (k : Running) : Type 0 where
   pub ranges : k .ranges < f .scale .0
   pub last : k .last .0 < f .capacity .0
 
--- what a batch works out once: whole turns of 2^33 steps or more, in steps and in units
+-- what a batch works out once: whole turns of 2^33 steps or more, in steps and in units, and whole rounds of M total ranges, of 2^52 units or more
 unfoldable pub leadOf : InForce → Lead
-leadOf f = record { steps = record { 0 = (2 ^ 33 / f .steps .0 + 1) * f .steps .0 }; units = (2 ^ 33 / f .steps .0 + 1) * f .scale .0 }
+leadOf f =
+    record {
+      steps = record { 0 = (2 ^ 33 / f .steps .0 + 1) * f .steps .0 };
+      units = (2 ^ 33 / f .steps .0 + 1) * f .scale .0;
+      rounds = (2 ^ 52 / (f .scale .0 * f .span .0) + 1) * (f .scale .0 * f .span .0);
+    }
 
 -- ---- over a list of readings
 -- the running values after each entry

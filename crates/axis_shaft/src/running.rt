@@ -29,10 +29,11 @@ pub struct Share {
 }
 
 // Whole turns, in steps and in units. A move and so many turns are a positive number and leave the same part. It has more than 32 bits for either
-// sign of the move, so that the same division does for all.
+// sign of the move, so that the same division does for all. And whole rounds of M total ranges, in units, for units that leave their range.
 pub struct Lead {
     pub steps: Steps,
     pub units: u64,
+    pub rounds: u64,
 }
 
 // What a batch works out once.
@@ -41,9 +42,11 @@ fn lead_of(rules: InForce) -> Lead
     ensures { λ r. ⌜ r ≡ leadOf rules ⌝ }
 {
     let turns = 0x2_0000_0000 / rules.steps.0 + 1;
+    let round = rules.scale.0 as u64 * rules.span.0 as u64;
     Lead {
         steps: Steps(turns * rules.steps.0),
         units: turns * rules.scale.0 as u64,
+        rounds: (0x10_0000_0000_0000 / round + 1) * round,
     }
 }
 
@@ -112,7 +115,7 @@ impl Running {
     {
         let last = self.last;
         let by = share_of(rules, lead, move_to(rules, last, raw));
-        let mut next = self.onward(rules, self.carried(rules, by));
+        let mut next = self.onward(rules, lead, self.carried(rules, by));
         let here = Steps(raw as u64);
         next.last = here;
         next
@@ -137,14 +140,16 @@ impl Running {
         }
     }
 
-    // So many whole units on, with a new rest. Most moves stay within the total range and need no division.
-    fn onward(self, rules: InForce, by: Share) -> Running
-        requires { ⌜ Sound rules × Within rules self × (natAbs (by .whole) ≤ 2 ^ 51) ⌝ }
+    // So many whole units on, with a new rest. Most moves stay within the total range and need no division. Where a total range ends, or several, the
+    // units are counted ahead by whole rounds, which leave units and ranges as they are.
+    fn onward(self, rules: InForce, lead: Lead, by: Share) -> Running
+        requires { ⌜ Sound rules × Within rules self × (lead ≡ leadOf rules) × (natAbs (by .whole) ≤ 2 ^ 51) ⌝ }
         ensures { λ r. ⌜ r ≡ onward rules self by ⌝ }
     {
         let last = self.last;
+        let span = rules.span.0 as u64;
         let to = self.units.0 as i64 + by.whole;
-        if (0 <= to) & (to < rules.span.0 as i64) {
+        if (0 <= to) & (to < span as i64) {
             return Running {
                 units: Units(to as u32),
                 rest: by.part,
@@ -152,23 +157,11 @@ impl Running {
                 last,
             };
         }
-        self.around(rules, by)
-    }
-
-    // The same where a total range ends, or several: the units go around L, and with the ranges around M x L.
-    fn around(self, rules: InForce, by: Share) -> Running
-        requires { ⌜ Sound rules × Within rules self ⌝ }
-        ensures { λ r. ⌜ r ≡ onward rules self by ⌝ }
-    {
-        let last = self.last;
-        let span = rules.span.0 as u64;
-        let units = Units(ring::add(self.units.0 as u64, by.whole, span) as u32);
-        let from = self.ranges * span + self.units.0 as u64;
-        let to = ring::add(from, by.whole, rules.scale.0 as u64 * span);
+        let ahead = (to + lead.rounds as i64) as u64;
         Running {
-            units,
+            units: Units((ahead % span) as u32),
             rest: by.part,
-            ranges: to / span,
+            ranges: (self.ranges + ahead / span) % rules.scale.0 as u64,
             last,
         }
     }

@@ -2,4 +2,4 @@ use Rattle.axis_shaft.proofs.{RunningLaws.runs, SensorLaws.needs, runni
 
 pub onward-spec : {M : Type 1} → statement M
 onward-spec = close (spec
-    (λ c. search needs) (λ c. search (needs, runs)) (λ c. search needs) (λ c. search (needs, runs)) (λ c. search (needs, runs)) (λ c κs. search needs) (λ c. search needs))
+    (λ c. search needs) (λ c. search needs) (λ c. search (needs, runs)) (λ c. search needs) (λ c. search (needs, runs)) (λ c. search (needs, runs)) (λ c. search (needs, runs)) (λ c. search (needs, runs)) (λ c. search (needs, runs)) (λ c. search needs) (λ c. search (needs, runs)) (λ c. search needs) (λ c. search (needs, runs)) (λ c. search needs) (λ c. search needs) (λ c. search (needs, runs)))
