@@ -46,6 +46,8 @@ pub shaft-is : (f : InForce) (k : Running)
 unfolding shaftOf
 shaft-is f k = refl
 
+pub ruleset tells = (ranges-fit, all-fits, parts-of-fit, parts-all-fit, shaft-is)
+
 -- ---- a total range goes on
 not-beyond : (z : ℤ) (n : ℕ) → (leZ (pos 0) z && ltZ z (pos n)) ≡ true → (a : ℕ) × (z ≡ pos a) × (a < n)
 not-beyond (pos a) n t = (a, refl, ltb-true a n (and-split (leb 0 a) (ltb a n) t .1))
@@ -159,6 +161,8 @@ module _ (f : InForce) (s : Sound f) (k : Running) (w : Within f k) (by : Share)
         (omega (arith, add-is (pos (k .ranges)) q, diff-is (pos (ahead / f .span .0)) (pos n), N.div-add-mod' all (f .scale .0))) in
         rw (splits-rest lt h, splits-whole lt h, r)
 
+pub ruleset onwards = (to-fits, to-above, to-cast, onward-is, rounds-cast, sum-fits, sum-above, sum-cast, units-narrow, ranges-sum-fit, around-is)
+
 -- ---- the position
 module _ (f : InForce) (s : Sound f) (u : ℕ) (offset : ℤ) (u-fits : Fits w32 u) (fits : SFits w64 offset) where
   abbrev at : ℤ
@@ -191,6 +195,8 @@ module _ (f : InForce) (s : Sound f) (u : ℕ) (offset : ℤ) (u-fits : Fits w32
 
   pub position-round : (n : ℕ) → n ≡ onRing (pos u +ℤ toZ w64 (ofZ w64 offset)) (f .span .0) → n ≡ (pos u +ℤ offset) modulo f .span .0
   position-round n e = e ∙ rw (on-ring _ _ (s .span-least), reads fits)
+
+pub ruleset positions = (at-fits, at-above, at-cast, position-on, ring-narrow, position-round)
 
 -- ---- the running values of a place
 pub running-is : (f : InForce) (k : Shaft)
@@ -226,4 +232,4 @@ module _ (f : InForce) (s : Sound f) (k : Running) (raw : ℕ) (d : ℤ) (d-is :
       unfolding ranTo
       ran-is r r-is = rw (r-is, c-is, b-is, read)
 
-pub ruleset runs = (to-fits, to-above, to-cast, onward-is, rounds-cast, sum-fits, sum-above, sum-cast, units-narrow, ranges-sum-fit, around-is, ranges-fit, all-fits, parts-of-fit, parts-all-fit, shaft-is, at-fits, at-above, at-cast, position-on, ring-narrow, position-round, running-is, move-small, part-lt, whole-small, next-small, ran-is)
+pub ruleset moves = (move-small, part-lt, whole-small, next-small, ran-is)
