@@ -15,6 +15,7 @@ use Rattle.axis_shaft.proofs.AheadLaws.{ahead-fits, ahead-above, ahead-
 use lib.{Arith.digits-lt, Signed.leZ}
 use native.Mathlib.Nat as N
 
+-- ---- the place again: units, rest and ranges tell it
 module _ (f : InForce) (s : Sound f) (k : Running) (w : Within f k) where
   abbrev all : ℕ
   all = k .ranges * f .span .0 + k .units .0
@@ -28,7 +29,6 @@ module _ (f : InForce) (s : Sound f) (k : Running) (w : Within f k) where
   pub all-fits : Fits w64 (k .ranges * f .span .0 + k .units .0)
   all-fits = record { fits = omega (arith, all-lt, round-most f s) }
 
-  -- ---- the place again
   pub parts-of-fit : Fits w64 ((k .ranges * f .span .0 + k .units .0) * f .steps .0)
   parts-of-fit = record { fits = omega (arith, place-parts) }
     where
@@ -99,37 +99,22 @@ module _ (f : InForce) (s : Sound f) (k : Running) (w : Within f k) (by : Share)
     pub rounds-cast : SFits w64 (pos (lead .rounds))
     rounds-cast = record { sfits = omega (arith, rounds-by, lead-rounds f s) }
 
-    rounds-lead : (natAbs to ≤ lead .rounds) × (lead .rounds ≤ 2 ^ 53)
-    rounds-lead =
+    pub rounds-ahead : natAbs to ≤ lead .rounds
+    rounds-ahead =
         let z = pos (k .units .0) +ℤ by .whole in
-        let g = lead-rounds f s in
-        let e = rounds-by in
-        let h : natAbs z ≤ lead .rounds
-        = omega (arith, w .units, s .span-most, abs-is (by .whole), abs-is z, add-is (pos (k .units .0)) (by .whole), apart z) in
-        (rw to-is h, omega arith)
+        rw to-is
+        (omega (arith, lead-rounds f s, rounds-by, w .units, s .span-most, abs-is (by .whole), abs-is z, add-is (pos (k .units .0)) (by .whole), apart z))
 
-    most : lead .rounds ≤ 2 ^ 61
-    most = omega (arith, rounds-lead .1)
-
-    abbrev sum : ℤ
-    sum = toZ w64 (ofZ w64 to) +ℤ toZ w64 (lead .rounds)
-
-    pub sum-fits : SFits w64 sum
-    sum-fits = ahead-fits to (lead .rounds) to-fits (rounds-lead .0) most
-
-    pub sum-above : T (nonNeg (toZ w64 (ofZ w64 sum)))
-    sum-above = ahead-above to (lead .rounds) to-fits (rounds-lead .0) most
-
-    pub sum-cast : Fits w64 (natAbs (toZ w64 (ofZ w64 sum)))
-    sum-cast = ahead-cast to (lead .rounds) to-fits (rounds-lead .0) most
+    pub rounds-most : lead .rounds ≤ 2 ^ 61
+    rounds-most = omega (arith, lead-rounds f s, rounds-by)
 
     abbrev ahead : ℕ
-    ahead = natAbs (toZ w64 (ofZ w64 sum))
+    ahead = natAbs (toZ w64 (ofZ w64 (toZ w64 (ofZ w64 to) +ℤ toZ w64 (lead .rounds))))
 
     ahead-has : (ahead + below to ≡ above to + lead .rounds) × (ahead ≤ 2 ^ 54)
     ahead-has =
-        let e = ahead-is to (lead .rounds) to-fits (rounds-lead .0) most in
-        (e, omega (arith, abs-is to, rounds-lead))
+        let e = ahead-is to (lead .rounds) to-fits rounds-ahead rounds-most in
+        (e, omega (arith, abs-is to, rounds-ahead, lead-rounds f s, rounds-by))
 
     pub units-narrow : Fits w32 (ahead % f .span .0)
     units-narrow = record { fits = omega (arith, N.mod-lt ahead (s .span-least), s .span-most) }
@@ -161,7 +146,7 @@ module _ (f : InForce) (s : Sound f) (k : Running) (w : Within f k) (by : Share)
         (omega (arith, add-is (pos (k .ranges)) q, diff-is (pos (ahead / f .span .0)) (pos n), N.div-add-mod' all (f .scale .0))) in
         rw (splits-rest lt h, splits-whole lt h, r)
 
-pub ruleset onwards = (to-fits, to-above, to-cast, onward-is, rounds-cast, sum-fits, sum-above, sum-cast, units-narrow, ranges-sum-fit, around-is)
+pub ruleset onwards = (to-fits, to-above, to-cast, onward-is, rounds-cast, rounds-ahead, rounds-most, ahead-fits, ahead-above, ahead-cast, units-narrow, ranges-sum-fit, around-is)
 
 -- ---- the position
 module _ (f : InForce) (s : Sound f) (u : ℕ) (offset : ℤ) (u-fits : Fits w32 u) (fits : SFits w64 offset) where

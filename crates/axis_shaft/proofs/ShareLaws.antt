@@ -1,7 +1,7 @@
 -- A move in units, and the rest with it. A move is counted ahead by whole turns, so that it is divided as a natural number: the turns give whole
 -- units and leave nothing. So no case depends on its sign.
-use Rattle.integer.specs.Base.{_≡_, refl, ap, Bool, true, false, cond, ℕ, _+_, _-_, _*_, _/_, _%_, _^_, _≤_, _<_, arith, T, ltb, ℤ, pos, natAbs, _+ℤ_, _-ℤ_, _*ℤ_}
-use Rattle.integer.specs.Base.{nonNeg, lt-ltb, le-ltb, w64, Fits, SFits, toZ, ofZ, toZ-pos}
+use Rattle.integer.specs.Base.{_≡_, refl, ap, Bool, true, false, cond, ℕ, _+_, _-_, _*_, _/_, _%_, _^_, _≤_, _<_, arith, ltb, ℤ, pos, natAbs, _+ℤ_, _-ℤ_, _*ℤ_}
+use Rattle.integer.specs.Base.{lt-ltb, le-ltb, w64, Fits, SFits, toZ, ofZ, toZ-pos}
 use Rattle.integer.proofs.{above, below, apart, add-is, diff-is, mul-is, reads, abs-is, fits-abs, mul-le, modulo-lt, Splits, splits-rest, splits-whole, quotient-most}
 use Rattle.encoder.specs.{InForce, Sound}
 use Rattle.axis_shaft.specs.{Share, Lead, shareOf, carried, leadOf}
@@ -90,27 +90,18 @@ module _ (f : InForce) (s : Sound f) (d : ℤ) where
     pub units-cast : SFits w64 (pos (lead .units))
     units-cast = record { sfits = omega (arith, units-by, lead-units f s) }
 
-    steps-lead : (natAbs d ≤ lead .steps .0) × (lead .steps .0 ≤ 2 ^ 61)
-    steps-lead = let g = lead-steps f s in let e = steps-by in (omega arith, omega arith)
+    pub steps-ahead : natAbs d ≤ lead .steps .0
+    steps-ahead = omega (arith, lead-steps f s, steps-by)
 
-    abbrev sum : ℤ
-    sum = toZ w64 (ofZ w64 d) +ℤ toZ w64 (lead .steps .0)
-
-    pub sum-fits : SFits w64 sum
-    sum-fits = ahead-fits d (lead .steps .0) fits (steps-lead .0) (steps-lead .1)
-
-    pub sum-above : T (nonNeg (toZ w64 (ofZ w64 sum)))
-    sum-above = ahead-above d (lead .steps .0) fits (steps-lead .0) (steps-lead .1)
-
-    pub sum-cast : Fits w64 (natAbs (toZ w64 (ofZ w64 sum)))
-    sum-cast = ahead-cast d (lead .steps .0) fits (steps-lead .0) (steps-lead .1)
+    pub steps-most : lead .steps .0 ≤ 2 ^ 61
+    steps-most = omega (arith, lead-steps f s, steps-by)
 
     abbrev ahead : ℕ
-    ahead = natAbs (toZ w64 (ofZ w64 sum))
+    ahead = natAbs (toZ w64 (ofZ w64 (toZ w64 (ofZ w64 d) +ℤ toZ w64 (lead .steps .0))))
 
     ahead-has : (ahead + below d ≡ above d + lead .steps .0) × (ahead ≤ 2 ^ 34)
     ahead-has =
-        let e = ahead-is d (lead .steps .0) fits (steps-lead .0) (steps-lead .1) in
+        let e = ahead-is d (lead .steps .0) fits steps-ahead steps-most in
         (e, omega (arith, abs-is d, steps-by, lead-steps f s))
 
     parts-most : ahead * f .scale .0 ≤ 2 ^ 34 * 65536
@@ -167,7 +158,7 @@ module _ (f : InForce) (s : Sound f) (d : ℤ) where
   unfolding shareOf
   share-part = modulo-lt (d *ℤ pos (f .scale .0)) (s .steps-least)
 
-pub ruleset shares = (steps-cast, units-cast, sum-fits, sum-above, sum-cast, parts-fit, whole-cast, less-fits, share-is)
+pub ruleset shares = (steps-cast, units-cast, steps-ahead, steps-most, ahead-fits, ahead-above, ahead-cast, parts-fit, whole-cast, less-fits, share-is)
 
 -- ---- the rest, and one more unit where it is full
 either : (b : Bool) (x y : Share) {m : ℕ} → natAbs (x .whole) ≤ m → natAbs (y .whole) ≤ m → natAbs (cond b x y .whole) ≤ m
