@@ -1,23 +1,20 @@
 #!/usr/bin/env python3
-"""An axis by document 01, with No. 1 to 5 of document 02, apart from the Rattle code: whole numbers of any size, and the paper's own words for
+"""An axis by document 01, with No. 1 to 4 of document 02, apart from the Rattle code: whole numbers of any size, and the paper's own words for
 "modulo" and "rounded down" (Python's % and // are both rounded towards minus infinity).
 
     python3 model/axis.py            prints the calculated vectors, each call with its answer under it
     python3 model/axis.py --check    compares them with the last part of crates/vectors/stdout, the answers of its first part, by hand, with those
                                      of the model, and stdin with stdout without the answers
 
-The calls are drawn with fixed seeds, so that every run prints the same. The last section but four repeats cycles that stand in
+The calls are drawn with fixed seeds, so that every run prints the same. The last section but three repeats cycles that stand in
 crates/vectors/stdout, but none of those by hand of document 02, No. 3, nor of what follows them.
 
-Every start, reading and preset is calculated twice, by units and rest and by the former record with a place, wherever a place gives the record;
-every entry of a batch also by document 02, No. 4. Where the answers differ, the script fails.
+Every batch is calculated twice, by the place and by document 02, No. 4. Where the two differ, the script fails.
 """
 import itertools
-import math
 import os
 import random
 import sys
-import typing
 
 LENGTH, IDENT, RESERVED, UNITS, TOTAL, SPEED, PLATE = 1, 2, 3, 4, 5, 6, 7
 NO_AXIS, BUFFER, ELAPSED, STEP, TURN, HALF, OFF, PRESET, LIMIT = 16, 13, 14, 8, 9, 10, 12, 11, 17
@@ -49,53 +46,16 @@ class Link:
         return f"  link {bits} {self.counter} {self.expected} {self.code:04x}"
 
 
-class Former(typing.NamedTuple):
-    """The record before document 02, No. 5, by rules 2 to 6 of document 01: a place, kept modulo R x L, and the offset."""
-
-    r: int
-    m: int
-    span: int
-    place: int
-    offset: int
-
-    def divided(self):
-        """The unshifted position, and what dividing place x M by R leaves."""
-        return self.place * self.m // self.r % self.span, self.place * self.m % self.r
-
-    def unshifted(self):
-        return self.divided()[0]
-
-    def position(self):
-        return (self.unshifted() + self.offset) % self.span
-
-    def moved(self, d):
-        return self._replace(place=(self.place + d) % (self.r * self.span))
-
-    def shifted(self, v, relative):
-        new = ((self.position() if relative else 0) + v) % self.span
-        return self._replace(offset=new - self.unshifted())
-
-
 class Axis:
-    """The record: fields may be set to anything from outside. Beside it goes the former one, None where no place gives units and rest."""
+    """The record: fields may be set to anything from outside."""
 
-    def __init__(self, class4, r, t, octet, revolution, total, life=0, speed=0):
-        self.class4, self.r, self.t, self.octet, self.revolution, self.total = class4, r, t, octet, revolution, total
+    def __init__(self, class4, r, t, octet, units, total, life=0, speed=0):
+        self.class4, self.r, self.t, self.octet, self.units, self.total = class4, r, t, octet, units, total
         self.life, self.speed = life, speed
-        self.empty()
+        self.place, self.last = 0, 2**64 - 1  # not started
+        self.offset = self.preset = self.held = 0
         self.software, self.serial = [0] * 2, [0] * 10
         self.link = Link()
-
-    def empty(self):
-        """Not started."""
-        self.bring(0, 0, 2**64 - 1, 0, 0, 0)
-
-    def bring(self, units, rest, last, offset, preset, held):
-        """A record from outside, whatever its numbers are."""
-        self.units, self.rest, self.last = units, rest, last
-        self.offset, self.preset, self.held = offset, preset, held
-        self.former = self.found() if self.acceptable() else None
-        self.compare()
 
     # "Class 2 telegram", "Class 4 block" and rows 3 to 7; row 17 by document 02, No. 3
     def parameters(self):
@@ -111,9 +71,9 @@ class Axis:
     def scale(self):
         if not self.scaling:
             return 0
-        if self.revolution == 0 or self.revolution > self.r:
+        if self.units == 0 or self.units > self.r:
             return UNITS
-        return TOTAL if self.total < self.revolution or self.total > self.revolution * self.t else 0
+        return TOTAL if self.total < self.units or self.total > self.units * self.t else 0
 
     def speed_unit(self):
         return SPEED if self.class4 and self.speed > 3 else 0
@@ -144,7 +104,7 @@ class Axis:
 
     @property
     def m(self):
-        return self.revolution if self.scaling else self.r
+        return self.units if self.scaling else self.r
 
     @property
     def span(self):
@@ -155,18 +115,20 @@ class Axis:
         """The code sequence counter-clockwise, and in force."""
         return self.octet & 1 == 1 and (self.on or not self.class4)
 
-    # "The axis", rule by rule; units and rest by document 02, No. 5
+    # "The axis", rule by rule
     def oriented(self, raw):
         return (self.c - raw) % self.c if self.obeyed else raw
 
+    def unshifted(self):
+        return self.place * self.m // self.r % self.span
+
     def position(self):
-        return (self.units + self.offset) % self.span
+        return (self.unshifted() + self.offset) % self.span
 
     def acceptable(self):
         return (
             self.parameters() == 0
-            and self.units < self.span
-            and self.rest < self.r
+            and self.place < self.r * self.span
             and self.last < self.c
             and all(abs(v) < self.span for v in (self.offset, self.preset, self.held))
         )
@@ -216,41 +178,20 @@ class Axis:
         top = d * 60000 if unit == 3 else d * self.m * (1000, 100, 10)[unit]
         return max(-(2**31), min(2**31 - 1, cut(top, self.r * e)))
 
-    # document 02, No. 5: beside the former record
-    def found(self):
-        """The former record with the least place that gives units and rest. There is one where gcd (M, R x L) divides units x R + rest."""
-        n, whole = self.units * self.r + self.rest, self.r * self.span
-        g = math.gcd(self.m, whole)
-        if n % g:
-            return None
-        place = n // g * pow(self.m // g, -1, whole // g) % (whole // g)
-        return Former(self.r, self.m, self.span, place, self.offset)
-
-    def compare(self):
-        """The same answers by both records: units, rest, position and offset."""
-        if self.former:
-            here = self.units, self.rest, self.position(), self.offset
-            assert (*self.former.divided(), self.former.position(), self.former.offset) == here, (axis_line(self), self.former, here)
-
     # ---- the calls
     def start(self, s, t):
         n = self.parameters()
-        self.empty()
+        self.place, self.last = 0, 2**64 - 1
+        self.offset = self.preset = self.held = 0
         if n:
             raise Refused(n)
         raw = self.raw(s, t)
-        first = self.oriented(raw)
-        self.units, self.rest, self.last = first * self.m // self.r % self.span, first * self.m % self.r, raw
-        self.former = Former(self.r, self.m, self.span, first % (self.r * self.span), 0)
-        self.compare()
+        self.place, self.last = self.oriented(raw) % (self.r * self.span), raw
 
     def read_raw(self, raw):
         self.standing()
         d = self.move(raw)
-        n = (self.units * self.r + self.rest + d * self.m) % (self.r * self.span)
-        self.units, self.rest, self.last = n // self.r, n % self.r, raw
-        self.former = self.former and self.former.moved(d)
-        self.compare()
+        self.place, self.last = (self.place + d) % (self.r * self.span), raw
 
     def read(self, s, t):
         self.standing()
@@ -266,9 +207,7 @@ class Axis:
     def set_preset(self, v, relative):
         self.value(v)
         new = ((self.position() if relative else 0) + v) % self.span
-        self.offset, self.preset = new - self.units, v
-        self.former = self.former and self.former.shifted(v, relative)
-        self.compare()
+        self.offset, self.preset = new - self.unshifted(), v
 
     def hold(self, v):
         self.value(v)
@@ -278,24 +217,28 @@ class Axis:
         self.standing()
         if len(raws) != len(out):
             raise Refused(BUFFER)
-        kept = self.units, self.rest, self.last, self.former
-        units, rest = self.units, self.rest
+        kept = self.place, self.last
+        units, rest = self.divided()
         positions = []
         try:
             for raw in raws:
                 units, rest = self.carried(units, rest, self.move(raw))
                 self.read_raw(raw)
                 positions.append(self.position())
-                assert (units, rest) == (self.units, self.rest), (axis_line(self), kept, raws, "units and rest")
+                assert (units, rest) == self.divided(), (axis_line(self), kept, raws, "units and rest")
                 assert (units + self.offset) % self.span == positions[-1], (axis_line(self), kept, raws, "position")
         except Refused:
-            self.units, self.rest, self.last, self.former = kept
+            self.place, self.last = kept
             raise
         out[:] = positions
 
-    # document 02, No. 4: a batch by the move's own units and rest
+    # document 02, No. 4: a batch by the whole units and the rest
+    def divided(self):
+        """By the place: the unshifted position, and what dividing place x M by R leaves."""
+        return self.unshifted(), self.place * self.m % self.r
+
     def carried(self, units, rest, d):
-        """Units and rest after a move d, from the two before it."""
+        """Units and rest after a move d, from the two before it and without the place."""
         q, s = d * self.m // self.r, d * self.m % self.r  # rounded down: s is never negative
         units, rest = units + q, rest + s
         if rest >= self.r:
@@ -355,7 +298,7 @@ class Axis:
             k.executed = 0
         k.bit = asks
         zsw = 2**15 * k.error + 2**14 * park + 2**13 * (1 - k.error) + 2**12 * k.executed + 2**11 * k.seen
-        first = self.units if self.octet & 4 else self.position()
+        first = self.unshifted() if self.octet & 4 else self.position()
         second = k.code if k.error else self.position()
         return b"".join(n.to_bytes(size, "big") for n, size in ((0x0200, 2), (zsw, 2), (first, 4), (second, 4)))
 
@@ -487,7 +430,7 @@ def written(a, ident, given):
     if len(given) != (11 if a.class4 else 17):
         raise Refused(BUFFER)
     turn_away(a.parameters())
-    fields = bytes([a.octet]) + a.revolution.to_bytes(4, "big") + a.total.to_bytes(4, "big")
+    fields = bytes([a.octet]) + a.units.to_bytes(4, "big") + a.total.to_bytes(4, "big")
     if a.class4:
         return fields + bytes([a.life, a.speed])
     return given[:4] + ident.to_bytes(2, "big") + given[6:8] + fields
@@ -499,12 +442,12 @@ NOT_REPEATED = "# Document 02, No. 3: "  # begins the part by hand that `repeate
 
 
 def axis_line(a):
-    numbers = f"{a.r} {a.t} 0000 {a.octet:02x} {a.revolution} {a.total}"
+    numbers = f"{a.r} {a.t} 0000 {a.octet:02x} {a.units} {a.total}"
     return f"axis  4  {numbers} {a.life} {a.speed}" if a.class4 else f"axis  2  {numbers}"
 
 
 def shown(a):
-    return f"  at {a.position()} unshifted {a.units} rest {a.rest} offset {a.offset} preset {a.preset} stored {a.held}"
+    return f"  at {a.position()} unshifted {a.unshifted()} offset {a.offset} preset {a.preset} stored {a.held}"
 
 
 def answer(a, call):
@@ -574,7 +517,6 @@ def written_answer(a, ident, given):
 class Script:
     def __init__(self, seed):
         self.random, self.lines, self.calls, self.cycles, self.measured = random.Random(seed), [], 0, 0, 0
-        self.records = self.unplaced = 0  # records that were brought, and those within their limits that no place gives
 
     def number(self, a):
         """A raw number: near the last, at the other side of the sensor, anywhere, or past its end."""
@@ -618,20 +560,16 @@ class Script:
             text = " ".join(["list    ", str(size)] + [str(raw) for raw in raws])
             act = lambda: a.batch(raws, out)
         else:
-            self.fast(a)
+            (s, t), e = self.step_turn(a), self.random.choice([0, 1, 1, 7, 100, 65535])
+            self.lines.append(f"velocity {s} {t} {e}")
+            self.calls += 1
+            self.lines += velocity_answer(a, s, t, e)
             return
         self.lines.append(text)
         self.calls += 1
         self.lines += answer(a, act)
         if out is not None:
             self.lines.append(" ".join(["  list"] + [str(p) for p in out]))
-
-    def fast(self, a):
-        """A velocity."""
-        (s, t), e = self.step_turn(a), self.random.choice([0, 1, 1, 7, 100, 65535])
-        self.lines.append(f"velocity {s} {t} {e}")
-        self.calls += 1
-        self.lines += velocity_answer(a, s, t, e)
 
     def output(self, a):
         """Output octets: the bits that matter drawn one by one, and values around L."""
@@ -777,31 +715,19 @@ class Script:
         a.link.bring(*link)
         self.lines.append(" ".join(["keep    "] + [str(n) for n in link[:8]] + [f"{n:04x}" for n in link[8:]]))
 
-    def given(self, a, pasts=(None, None, None, "units", "last", "offset", "preset", "held")):
-        """A record that is brought, with the units and the rest of a place: within its limits, or past one of them."""
-        n, last = self.pick(a.r * a.span) * a.m, self.pick(a.c)
-        record = dict(units=n // a.r % a.span, rest=n % a.r, last=last, **self.signed(a))
+    def given(self, a, pasts=(None, None, None, "place", "last", "offset", "preset", "held")):
+        """A record that is brought: within its limits, or past one of them."""
+        pick = lambda limit: self.random.choice([0, limit - 1, self.random.randrange(limit), self.random.randrange(limit)])
+        a.place, a.last = pick(a.r * a.span), pick(a.c)
+        a.offset, a.preset, a.held = (self.random.choice([1, -1]) * pick(a.span) for _ in range(3))
         past = self.random.choice(pasts)
-        if past == "units":
-            record[past] = a.span
+        if past == "place":
+            a.place = a.r * a.span
         elif past == "last":
-            record[past] = a.c
+            a.last = a.c
         elif past:
-            record[past] = self.random.choice([a.span, -a.span])
-        self.bring_record(a, record)
-
-    def pick(self, limit):
-        """Below the limit: either end, or any."""
-        return self.random.choice([0, limit - 1, self.random.randrange(limit), self.random.randrange(limit)])
-
-    def signed(self, a):
-        return {name: self.random.choice([1, -1]) * self.pick(a.span) for name in ("offset", "preset", "held")}
-
-    def bring_record(self, a, record):
-        a.bring(**record)
-        self.lines.append(" ".join(["given   "] + [str(n) for n in record.values()]))
-        self.records += 1
-        self.unplaced += 1 if a.acceptable() and not a.former else 0
+            setattr(a, past, self.random.choice([a.span, -a.span]))
+        self.lines.append(f"given    {a.place} {a.last} {a.offset} {a.preset} {a.held}")
 
     def life(self, a, cycles):
         """Cycles of the sign of life on one axis by both telegrams, with links and records that are brought, held values and diagnoses between."""
@@ -891,7 +817,7 @@ class Script:
         self.lines += answer(a, lambda: a.set_preset(v, kind == "change"))
 
     def read_on(self, a):
-        """One reading more: it shows that the batch has left units and rest as it should."""
+        """One reading more: it shows that the batch has left the place as it should."""
         (raw,) = self.raws(a, 1)
         self.lines.append(f"number   {raw}")
         self.calls += 1
@@ -918,39 +844,6 @@ class Script:
             at = (at + max(-most, min(most, move))) % a.c
             raws.append(at)
         return raws
-
-    # document 02, No. 5
-    def serve(self, a, records):
-        """Records that are brought to one axis, and calls of every kind on each."""
-        self.lines.append(axis_line(a))
-        for _ in range(records):
-            self.given_any(a)
-            for _ in range(self.random.randint(3, 5) if a.acceptable() else 2):
-                self.serve_one(a)
-
-    def given_any(self, a):
-        """Any units and any rest, as a place gives them or not; some past the limit."""
-        record = dict(units=self.pick(a.span), rest=self.pick(a.r), last=self.pick(a.c), **self.signed(a))
-        past = self.random.choice([None] * 7 + ["units", "rest"])
-        if past == "units":
-            record[past] = self.random.choice([a.span, a.span + 1, max(a.span, a.c - 1), a.span + record[past], 2**32 - 1])
-        elif past == "rest":
-            record[past] = self.random.choice([a.r, a.r + 1, a.r + record[past], 2**16 + record[past], 2**32 - 1])
-        self.bring_record(a, record)
-
-    def serve_one(self, a):
-        cycle = self.measure if a.class4 and self.random.random() < 0.5 else self.exchange
-        kinds = [self.read_on] * 3 + [self.read_at] * 2 + [self.send_some] * 4 + [self.shift] * 2 + [cycle] * 4
-        self.random.choice(kinds + [self.hold, self.fast, self.diagnose])(a)
-
-    def read_at(self, a):
-        s, t = self.step_turn(a)
-        self.lines.append(f"reading  {s} {t}")
-        self.calls += 1
-        self.lines += answer(a, lambda: a.read(s, t))
-
-    def send_some(self, a):
-        self.send_list(a, self.random.randint(1, 6))
 
     def begin(self, a):
         self.lines.append(axis_line(a))
@@ -1067,7 +960,7 @@ def answer_to(a, line):
         return []
     numbers = [int(w) for w in words]
     if kind == "given":
-        a.bring(*numbers)
+        a.place, a.last, a.offset, a.preset, a.held = numbers
         return []
     if kind == "diagnose":
         return diagnosis_answer(a, b"\xee" * numbers[0])
@@ -1146,8 +1039,6 @@ def vectors(by_hand):
     lives(script, random.Random(5))
     script.random = random.Random(404)
     passes(script, random.Random(6))
-    script.random = random.Random(505)
-    served(script, random.Random(7))
     return script
 
 
@@ -1204,14 +1095,6 @@ def passes(script, rng):
         script.follow(a, [rng.randint(1, 7) for _ in range(4)])
 
 
-def served(script, rng):
-    script.lines.append(CALCULATED + "records with any units and rest, R 2 to 12 and T 1 to 9, short ranges among them; then the largest sensor")
-    for n in range(24):
-        script.serve(short(rng) if n % 2 else small(rng), 3)
-    for a in widest(rng):
-        script.serve(a, 2)
-
-
 def of_class(rng, draw, class4):
     a = draw(rng)
     return a if a.class4 == class4 else of_class(rng, draw, class4)
@@ -1223,7 +1106,6 @@ def main():
     by_hand = list(itertools.takewhile(lambda line: not line.startswith(CALCULATED), stdout))
     script = vectors(list(itertools.takewhile(lambda line: not line.startswith(NOT_REPEATED), by_hand)))
     counts = f"{script.calls} calls, {script.cycles} of them cycles, {script.measured} of these of telegram 83"
-    counts += f"; {script.records} records brought, {script.unplaced} of them such as no place gives"
     if "--check" not in sys.argv[1:]:
         print("\n".join(script.lines))
         print(counts, file=sys.stderr)

@@ -1,5 +1,5 @@
 //! The same work by hand in Rust: start and batch by the rules of documents 01 and 02, the readings looked through before any position is written.
-//! Three times: as one writes it down by the place, tuned as far as the same method goes, and tuned with units and rest in the place's stead.
+//! Three times: as one writes it down, tuned as far as the same method goes, and tuned with whole units and rest as running values.
 
 use encoder_tests::model::{Parameters, Plate};
 use std::hint::black_box;
@@ -166,7 +166,8 @@ fn tuned_on<const REVERSED: bool>(f: &Force, first: u32, raws: &[u32], positions
     0
 }
 
-/// Tuned further: a look through the readings without a branch, then units and rest from entry to entry (document 02, requests 4 and 5).
+/// Tuned further: a look through the readings without a branch, then whole units and rest as running values (document 02, request 4). The place is
+/// told from them at the end by the total ranges that the units have gone through.
 pub fn running(plate: Plate, sent: Parameters, first: u32, raws: &[u32], positions: &mut [u32]) -> u8 {
     match begin(plate, sent, first, raws, positions) {
         Err(number) => number,
@@ -193,8 +194,8 @@ fn running_on<const REVERSED: bool>(f: &Force, first: u32, raws: &[u32], positio
         }
     }
     let (r, c, m, l) = (f.r, f.c, f.m, f.l);
-    let parts = way::<REVERSED>(c, 0, u64::from(first)) * m;
-    let (mut rest, mut units) = (parts % r, (parts / r % l) as i64);
+    let parts = way::<REVERSED>(c, 0, u64::from(first)) % (r * l) * m;
+    let (mut rest, mut units, mut ranges) = (parts % r, (parts / r % l) as i64, parts / r / l);
     // A move and these turns are positive, and leave the same rest.
     let turns = (1 << 33) / r + 1;
     let (lead, whole) = (turns * r, (turns * m) as i64);
@@ -209,10 +210,11 @@ fn running_on<const REVERSED: bool>(f: &Force, first: u32, raws: &[u32], positio
         rest = if full { sum - r } else { sum };
         units += (parts / r) as i64 - whole + i64::from(full);
         if !(0..l as i64).contains(&units) {
+            ranges = (ranges as i64 + units.div_euclid(l as i64)).rem_euclid(m as i64) as u64;
             units = units.rem_euclid(l as i64);
         }
         *position = units as u32;
     }
-    black_box((units, rest, last));
+    black_box(((ranges * l + units as u64) * r + rest) / m);
     0
 }

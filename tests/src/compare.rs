@@ -57,7 +57,7 @@ pub struct Counts {
     pub position_wraps: u64,
     pub sensor_wraps: u64,
     pub differences: u64,
-    /// The same moves by document 02, No. 4 and 5.
+    /// The same moves by document 02, No. 4.
     pub kinds: Kinds,
 }
 
@@ -90,7 +90,7 @@ impl Counts {
     /// The first batch in which units or rest are not those of the place is printed.
     fn note_running(&mut self, axis: Axis, call: &Batch) -> Result<(), u8> {
         let before = self.kinds.differences;
-        running::follow_start(axis, &call.raws, &mut self.kinds)?;
+        running::follow(axis, &call.raws, &mut self.kinds)?;
         if before == 0 && self.kinds.differences > 0 {
             println!("DIFFERENT by units and rest. Case: {call:?}");
         }

@@ -1,27 +1,18 @@
 //! One axis record and its link over many calls: start, readings, presets, passes, velocity and the cycles of
 //! document 01; of document 02 telegram 83 (No. 1), the preset that stays due (No. 2), the sign of life with the errors
-//! that have a code (No. 3), passes by units and rest (No. 4), and the record that keeps them (No. 5).
+//! that have a code (No. 3), and passes by units and rest (No. 4).
 
-use crate::model::{self, bit, number, refuse_if, Axis, Parameters, Plate, Sensor};
-use crate::running::{self, Kinds, Running};
+use crate::model::{self, bit, number, refuse_if, Axis, Parameters, Plate};
+use crate::running::{self, Kinds};
 
 /// The numbers of an axis record. `last` is the last raw number.
 #[derive(Clone, Copy, Debug)]
 pub struct Numbers {
-    pub shaft: Running,
+    pub place: i128,
     pub last: u32,
     pub offset: i128,
     pub preset: i128,
     pub held: i128,
-    /// The record before document 02, No. 5, which goes beside this one. There is none where no place gives the shaft.
-    pub former: Option<Former>,
-}
-
-/// The former record, as far as No. 5 changes it: with a place. It must give the same answers.
-#[derive(Clone, Copy, Debug)]
-pub struct Former {
-    axis: Axis,
-    offset: i128,
 }
 
 /// The codes of errors.
@@ -54,79 +45,56 @@ pub struct Device {
 
 /// A record within its limits, as a copy for one call.
 pub struct Started {
-    sensor: Sensor,
+    axis: Axis,
     unit: u8,
     pub numbers: Numbers,
 }
 
-/// Rules 4 to 6 by the place.
-impl Former {
-    fn position(&self) -> u32 {
-        shifted(self.axis.position().into(), self.offset, &self.axis.sensor)
-    }
-
-    fn preset(&mut self, value: i128, relative: bool) {
-        let from = if relative { i128::from(self.position()) } else { 0 };
-        let position = (from + value).rem_euclid(self.axis.sensor.l);
-        self.offset = position - i128::from(self.axis.position());
-    }
-}
-
-/// Rule 5.
-fn shifted(unshifted: i128, offset: i128, sensor: &Sensor) -> u32 {
-    u32::try_from((unshifted + offset).rem_euclid(sensor.l)).expect("L is at most 2^31")
+/// The place modulo R × L.
+fn reduced(axis: &Axis) -> i128 {
+    axis.place.rem_euclid(axis.r * axis.l)
 }
 
 impl Started {
     pub fn unshifted(&self) -> u32 {
-        u32::try_from(self.numbers.shaft.units).expect("below L")
+        self.axis.position()
     }
 
+    /// Rule 5.
     pub fn position(&self) -> u32 {
-        shifted(self.numbers.shaft.units, self.numbers.offset, &self.sensor)
+        self.shifted(self.unshifted().into())
     }
 
-    /// Document 02, No. 5: units, rest, position and offset are those of the former record, where there is one.
-    fn compare(&self) {
-        if let Some(former) = &self.numbers.former {
-            let here = (self.numbers.shaft, self.position(), self.numbers.offset);
-            let there = (Running::by_place(&former.axis), former.position(), former.offset);
-            assert_eq!(here, there, "left the record, right the former one");
-        }
+    fn shifted(&self, unshifted: i128) -> u32 {
+        let sum = unshifted + self.numbers.offset;
+        u32::try_from(sum.rem_euclid(self.axis.l)).expect("L is at most 2^31")
     }
 
     /// Moves by a raw number; the answer is d.
     fn read(&mut self, raw: u32) -> Result<i128, u8> {
-        let d = self.sensor.read(raw)?;
-        (self.numbers.shaft, self.numbers.last) = (self.numbers.shaft.read(d, &self.sensor), raw);
-        if let Some(former) = &mut self.numbers.former {
-            former.axis.read(raw).expect("taken by the former record too");
-        }
-        self.compare();
+        let d = self.axis.read(raw)?;
+        (self.numbers.place, self.numbers.last) = (reduced(&self.axis), raw);
         Ok(d)
     }
 
     /// Rule 6, for a value between −L and L.
     fn preset(&mut self, value: i128, relative: bool) {
         let from = if relative { i128::from(self.position()) } else { 0 };
-        let position = (from + value).rem_euclid(self.sensor.l);
-        (self.numbers.offset, self.numbers.preset) = (position - self.numbers.shaft.units, value);
-        if let Some(former) = &mut self.numbers.former {
-            former.preset(value, relative);
-        }
-        self.compare();
+        let position = (from + value).rem_euclid(self.axis.l);
+        self.numbers.offset = position - i128::from(self.unshifted());
+        self.numbers.preset = value;
     }
 
     /// "Velocity". The move is made on this copy only. Division of i128 cuts towards zero.
     fn velocity(mut self, raw: u32, elapsed: u32) -> Result<i32, u8> {
         let d = self.read(raw)?;
         let per = match self.unit {
-            0 => self.sensor.m * 1000,
-            1 => self.sensor.m * 100,
-            2 => self.sensor.m * 10,
+            0 => self.axis.m * 1000,
+            1 => self.axis.m * 100,
+            2 => self.axis.m * 10,
             _ => 60_000,
         };
-        let whole = d * per / (self.sensor.r * i128::from(elapsed));
+        let whole = d * per / (self.axis.r * i128::from(elapsed));
         Ok(whole.clamp(i32::MIN.into(), i32::MAX.into()) as i32)
     }
 }
@@ -136,11 +104,12 @@ impl Device {
         let numbers = self.numbers?;
         self.plate.check().ok()?;
         self.parameters.check(&self.plate).ok()?;
-        let sensor = Sensor::start(&self.plate, &self.parameters, numbers.last).ok()?; // turns away C and above
+        let mut axis = Axis::start(&self.plate, &self.parameters, numbers.last).ok()?; // turns away C and above
+        axis.place = numbers.place;
         let signed = [numbers.offset, numbers.preset, numbers.held];
-        let within = numbers.shaft.within_limits(&sensor) && signed.iter().all(|number| number.abs() < sensor.l);
+        let within = numbers.place == reduced(&axis) && signed.iter().all(|number| number.abs() < axis.l);
         let unit = if self.parameters.is_class_four() { self.parameters.speed } else { 0 };
-        within.then_some(Started { sensor, unit, numbers })
+        within.then_some(Started { axis, unit, numbers })
     }
 
     /// Row 16.
@@ -176,20 +145,8 @@ impl Device {
         self.parameters.check(&self.plate)?;
         let last = self.raw(step, turn)?;
         let axis = Axis::start(&self.plate, &self.parameters, last)?;
-        let (shaft, former) = (Running::start(&axis.sensor), Some(Former { axis, offset: 0 }));
-        self.numbers = Some(Numbers { shaft, last, offset: 0, preset: 0, held: 0, former });
-        self.started().map(|started| started.compare())
-    }
-
-    /// A record that is brought, whatever its numbers are. Within the limits the former one is looked for.
-    pub fn bring(&mut self, numbers: Numbers) {
-        self.numbers = Some(numbers);
-        if let Ok(mut started) = self.started() {
-            let placed = numbers.shaft.placed(&started.sensor);
-            started.numbers.former = placed.map(|axis| Former { axis, offset: numbers.offset });
-            started.compare();
-            self.numbers = Some(started.numbers);
-        }
+        self.numbers = Some(Numbers { place: reduced(&axis), last, offset: 0, preset: 0, held: 0 });
+        Ok(())
     }
 
     pub fn reading(&mut self, step: u32, turn: u32) -> Result<(), u8> {
@@ -215,9 +172,8 @@ impl Device {
     pub fn running_pass(&self, raws: &[u32], length: usize, kinds: &mut Kinds) -> Result<Vec<u32>, u8> {
         let started = self.started()?;
         refuse_if(length != raws.len(), model::BUFFER)?;
-        let Numbers { shaft, offset, former, .. } = started.numbers;
-        let units = running::follow(started.sensor, shaft, former.map(|former| former.axis), raws, kinds)?;
-        Ok(units.into_iter().map(|units| shifted(units, offset, &started.sensor)).collect())
+        let units = running::follow(started.axis, raws, kinds)?;
+        Ok(units.into_iter().map(|units| started.shifted(units)).collect())
     }
 
     pub fn preset(&mut self, value: i128, relative: bool) -> Result<(), u8> {
@@ -234,7 +190,7 @@ impl Device {
         let class_on = self.parameters.class_on();
         self.call(|started| {
             refuse_if(!class_on, model::CLASS_OFF)?;
-            refuse_if(value.abs() >= started.sensor.l, model::PRESET)?;
+            refuse_if(value.abs() >= started.axis.l, model::PRESET)?;
             change(started);
             Ok(())
         })
@@ -350,7 +306,7 @@ impl Link {
         let value = i128::from(output & 0x7FFF_FFFF);
         let rise = bit(output, 31) && !self.counted;
         let due = rise || self.due && bit(output, 31);
-        let made = due && parameters.class_on() && !self.faulty && value < started.sensor.l;
+        let made = due && parameters.class_on() && !self.faulty && value < started.axis.l;
         if made {
             started.preset(value, false);
         }

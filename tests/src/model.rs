@@ -1,5 +1,5 @@
 //! The rules of document 01, with the parameters of document 02, No. 3, as close to their words as Rust allows and with
-//! no regard to speed. Batches are worked out by the place here; `running` has them by document 02, No. 4 and 5.
+//! no regard to speed. Batches are worked out by the place here; `running` has them by document 02, No. 4.
 //!
 //! All arithmetic is exact: i128 never comes near its limits here, and overflow checks are on.
 
@@ -136,20 +136,23 @@ impl Parameters {
     }
 }
 
-/// What is in force, letters as in document 01, and the last reading as an oriented number.
-#[derive(Clone, Copy, Debug)]
-pub struct Sensor {
+/// A started axis. Letters as in document 01; there is no offset, since a batch makes no preset.
+#[derive(Clone, Copy)]
+pub struct Axis {
     pub(crate) r: i128,
     c: i128,
     pub(crate) m: i128,
     pub(crate) l: i128,
     code_sequence: bool,
-    pub(crate) oriented: i128,
+    oriented: i128,
+    /// The paper keeps the place modulo R × L. Here it is kept whole: taking R × L away changes place × M / R by
+    /// L × M, a multiple of L, so the positions must be the same, and a wrong reduction shows as a difference.
+    pub(crate) place: i128,
 }
 
-impl Sensor {
+impl Axis {
     /// Plate and parameters have been checked.
-    pub fn start(plate: &Plate, parameters: &Parameters, first: u32) -> Result<Sensor, u8> {
+    pub fn start(plate: &Plate, parameters: &Parameters, first: u32) -> Result<Axis, u8> {
         let (r, c) = (i128::from(plate.steps), plate.raw_numbers());
         let (m, l) = if parameters.scaling_in_force() {
             (i128::from(parameters.units), i128::from(parameters.range))
@@ -157,9 +160,10 @@ impl Sensor {
             (r, c)
         };
         let code_sequence = parameters.code_sequence_in_force();
-        let mut sensor = Sensor { r, c, m, l, code_sequence, oriented: 0 };
-        sensor.oriented = sensor.orient(first)?;
-        Ok(sensor)
+        let mut axis = Axis { r, c, m, l, code_sequence, oriented: 0, place: 0 };
+        axis.oriented = axis.orient(first)?;
+        axis.place = axis.oriented;
+        Ok(axis)
     }
 
     /// Rule 1, for raw numbers below C.
@@ -177,50 +181,28 @@ impl Sensor {
         refuse_if(2 * forward == self.c, HALF_RANGE)?;
         let d = if 2 * forward < self.c { forward } else { forward - self.c };
         self.oriented = oriented;
+        self.place += d;
         Ok(d)
-    }
-}
-
-/// A started axis by its place, as document 01 has it. There is no offset, since a batch makes no preset.
-#[derive(Clone, Copy, Debug)]
-pub struct Axis {
-    pub sensor: Sensor,
-    /// The paper keeps the place modulo R × L. Here it is kept whole: taking R × L away changes place × M / R by
-    /// L × M, a multiple of L, so the positions must be the same, and a wrong reduction shows as a difference.
-    pub(crate) place: i128,
-}
-
-impl Axis {
-    /// Rule 2. Plate and parameters have been checked.
-    pub fn start(plate: &Plate, parameters: &Parameters, first: u32) -> Result<Axis, u8> {
-        let sensor = Sensor::start(plate, parameters, first)?;
-        Ok(Axis { sensor, place: sensor.oriented })
-    }
-
-    /// Moves the place by d.
-    pub fn read(&mut self, raw: u32) -> Result<(), u8> {
-        self.place += self.sensor.read(raw)?;
-        Ok(())
     }
 
     /// Place × M / R rounded down, before it is taken modulo L.
     fn units_moved(&self) -> i128 {
-        (self.place * self.sensor.m).div_euclid(self.sensor.r)
+        (self.place * self.m).div_euclid(self.r)
     }
 
     /// Rule 4, and rule 5 with offset 0.
     pub fn position(&self) -> u32 {
-        u32::try_from(self.units_moved().rem_euclid(self.sensor.l)).expect("L is at most 2^31")
+        u32::try_from(self.units_moved().rem_euclid(self.l)).expect("L is at most 2^31")
     }
 
     /// How many times the position has gone through its whole range L (below 0 the other way). For counting wraps only.
     pub fn position_rounds(&self) -> i128 {
-        self.units_moved().div_euclid(self.sensor.l)
+        self.units_moved().div_euclid(self.l)
     }
 
     /// The same for the sensor and its range C.
     pub fn sensor_rounds(&self) -> i128 {
-        self.place.div_euclid(self.sensor.c)
+        self.place.div_euclid(self.c)
     }
 }
 

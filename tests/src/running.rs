@@ -1,9 +1,9 @@
-//! Units and rest instead of the place: as the axis record keeps them (document 02, No. 5), and as a pass works them
-//! out from entry to entry (No. 4). `follow` goes through a pass in both ways and by the place, side by side.
+//! A pass by document 02, No. 4: the whole units and the rest are kept from entry to entry, and the place has no part in
+//! it. `follow` goes through a pass in this way and by the place, side by side.
 
-use crate::model::{Axis, Sensor};
+use crate::model::Axis;
 
-/// The unshifted position, below L, and the rest that the division left, below R.
+/// The whole units, below L, and the rest, below R.
 #[derive(Clone, Copy, Debug, PartialEq)]
 pub struct Running {
     pub units: i128,
@@ -14,8 +14,6 @@ pub struct Running {
 #[derive(Clone, Copy, Debug, Default)]
 pub struct Kinds {
     pub entries: u64,
-    /// Entries that were compared with a place.
-    pub placed: u64,
     /// R was taken off the rest.
     pub carries: u64,
     /// Back, by no whole number of units: rounded down is not cut.
@@ -31,70 +29,27 @@ pub struct Kinds {
     /// Past either end of the total range.
     pub wraps_forward: u64,
     pub wraps_back: u64,
-    /// Entries after which units or rest are not the same in every way.
+    /// Entries after which units or rest are not those of the place.
     pub differences: u64,
 }
 
-/// The greatest common divisor of a and b, and x and y for which it is a × x + b × y.
-fn common_divisor(a: i128, b: i128) -> (i128, i128, i128) {
-    if b == 0 {
-        return (a, 1, 0);
-    }
-    let (divisor, x, y) = common_divisor(b, a % b);
-    (divisor, y, x - a / b * y)
-}
-
 impl Running {
-    /// At the start: the oriented number × M, divided by R.
-    pub fn start(sensor: &Sensor) -> Running {
-        Running::divided(sensor.oriented * sensor.m, sensor)
-    }
-
     /// By the place: the unshifted position, and what dividing place × M by R leaves.
-    pub fn by_place(axis: &Axis) -> Running {
-        Running::divided(axis.place * axis.sensor.m, &axis.sensor)
+    fn by_place(axis: &Axis) -> Running {
+        Running { units: axis.position().into(), rest: (axis.place * axis.m).rem_euclid(axis.r) }
     }
 
-    fn divided(number: i128, sensor: &Sensor) -> Running {
-        Running { units: number.div_euclid(sensor.r).rem_euclid(sensor.l), rest: number.rem_euclid(sensor.r) }
-    }
-
-    /// An axis at a place that gives these units and this rest, if one does: place × M must be units × R + rest, up to
-    /// a multiple of R × L.
-    pub fn placed(&self, sensor: &Sensor) -> Option<Axis> {
-        let (whole, all) = (self.whole(sensor), sensor.r * sensor.l);
-        let (divisor, factor, _) = common_divisor(sensor.m, all);
-        let place = (whole / divisor * factor).rem_euclid(all);
-        (whole % divisor == 0).then_some(Axis { sensor: *sensor, place })
-    }
-
-    /// Row 16. Neither is negative.
-    pub fn within_limits(&self, sensor: &Sensor) -> bool {
-        self.units < sensor.l && self.rest < sensor.r
-    }
-
-    /// Units × R + rest.
-    fn whole(&self, sensor: &Sensor) -> i128 {
-        self.units * sensor.r + self.rest
-    }
-
-    /// A reading of the record, No. 5: units × R + rest goes by d × M, modulo R × L.
-    pub fn read(self, d: i128, sensor: &Sensor) -> Running {
-        let whole = (self.whole(sensor) + d * sensor.m).rem_euclid(sensor.r * sensor.l);
-        Running { units: whole / sensor.r, rest: whole % sensor.r }
-    }
-
-    /// An entry of a pass, No. 4: after a move d, from the two before it. `sensor` tells R, M and L only.
-    fn moved(self, d: i128, sensor: &Sensor, kinds: &mut Kinds) -> Running {
-        let (q, s) = ((d * sensor.m).div_euclid(sensor.r), (d * sensor.m).rem_euclid(sensor.r));
+    /// After a move d, from the two before it. `axis` tells R, M and L only.
+    fn moved(self, d: i128, axis: &Axis, kinds: &mut Kinds) -> Running {
+        let (q, s) = ((d * axis.m).div_euclid(axis.r), (d * axis.m).rem_euclid(axis.r));
         let (mut units, mut rest) = (self.units + q, self.rest + s);
-        let carry = rest >= sensor.r;
+        let carry = rest >= axis.r;
         if carry {
             units += 1;
-            rest -= sensor.r;
+            rest -= axis.r;
         }
-        kinds.note(q, s, carry, units, sensor.l);
-        Running { units: units.rem_euclid(sensor.l), rest }
+        kinds.note(q, s, carry, units, axis.l);
+        Running { units: units.rem_euclid(axis.l), rest }
     }
 }
 
@@ -118,37 +73,19 @@ impl Kinds {
     pub fn all_came(&self) -> bool {
         let forward = [self.whole_forward, self.spans_forward, self.wraps_forward];
         let back = [self.whole_back, self.spans_back, self.wraps_back];
-        let rests = [self.entries, self.placed, self.carries, self.rounded_down, self.borrows];
+        let rests = [self.entries, self.carries, self.rounded_down, self.borrows];
         [&forward[..], &back[..], &rests[..]].concat().iter().all(|count| *count > 0)
     }
 }
 
-/// A pass from a start.
-pub fn follow_start(axis: Axis, raws: &[u32], kinds: &mut Kinds) -> Result<Vec<i128>, u8> {
-    follow(axis.sensor, Running::start(&axis.sensor), Some(axis), raws, kinds)
-}
-
-/// Goes through a pass, from units and rest as they stand, and from a place if there is one. The answer has the units
-/// after each entry.
-pub fn follow(
-    mut sensor: Sensor,
-    begin: Running,
-    mut former: Option<Axis>,
-    raws: &[u32],
-    kinds: &mut Kinds,
-) -> Result<Vec<i128>, u8> {
-    let (mut running, mut record) = (begin, begin);
+/// Goes through a pass, from the axis as it stands. The answer has the whole units after each entry.
+pub fn follow(mut axis: Axis, raws: &[u32], kinds: &mut Kinds) -> Result<Vec<i128>, u8> {
+    let mut running = Running::by_place(&axis);
     let mut units = Vec::with_capacity(raws.len());
     for raw in raws {
-        let d = sensor.read(*raw)?;
-        (running, record) = (running.moved(d, &sensor, kinds), record.read(d, &sensor));
-        let mut same = running == record;
-        if let Some(axis) = &mut former {
-            axis.read(*raw)?;
-            same &= record == Running::by_place(axis);
-            kinds.placed += 1;
-        }
-        kinds.differences += u64::from(!same);
+        let d = axis.read(*raw)?;
+        running = running.moved(d, &axis, kinds);
+        kinds.differences += u64::from(running != Running::by_place(&axis));
         units.push(running.units);
     }
     Ok(units)

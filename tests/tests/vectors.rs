@@ -3,44 +3,24 @@
 
 use encoder_tests::cycle::{Device, Link, Numbers};
 use encoder_tests::model::{Parameters, Plate};
-use encoder_tests::running::{Kinds, Running};
+use encoder_tests::running::Kinds;
 use std::collections::BTreeMap;
 use std::fmt::Debug;
 use std::path::Path;
 use std::str::FromStr;
 
 /// Calls, by class and kind, that must be in the stored vectors at least: the test cannot pass emptily.
-const LEAST: [(&str, usize); 22] = [
-    ("4 exchange", 554),
-    ("4 measured", 620),
-    ("2 exchange", 623),
-    ("2 measured", 38),
-    ("4 list", 155),
-    ("2 list", 220),
-    // Records that are brought, those outside their limits, and those such as no place gives
-    ("4 given", 152),
-    ("2 given", 191),
-    ("4 given outside", 55),
-    ("2 given outside", 84),
-    ("4 given unplaced", 27),
-    ("2 given unplaced", 31),
-    // Calls taken on the latter
-    ("4 number unplaced", 23),
-    ("2 number unplaced", 34),
-    ("4 reading unplaced", 7),
-    ("2 reading unplaced", 10),
-    ("4 list unplaced", 16),
-    ("2 list unplaced", 22),
-    ("4 exchange unplaced", 11),
-    ("2 exchange unplaced", 13),
-    ("4 measured unplaced", 18),
-    ("2 preset unplaced", 6),
+const LEAST: [(&str, usize); 6] = [
+    ("4 exchange", 529),
+    ("4 measured", 591),
+    ("2 exchange", 572),
+    ("2 measured", 35),
+    ("4 list", 122),
+    ("2 list", 133),
 ];
 
-/// Entries of passes that must be there at least, those in front of a refusal among them; and of these, compared with a
-/// place.
-const ENTRIES: u64 = 1569;
-const PLACED: u64 = 1420;
+/// Entries of passes that must be there at least, those in front of a refusal among them.
+const ENTRIES: u64 = 1281;
 
 /// Lines that leave the axis as it is and whose answers are not calculated here.
 const PASSED_OVER: [&str; 4] = ["telegram", "block", "write", "serial"];
@@ -64,16 +44,9 @@ fn device(words: &[&str]) -> Device {
     Device { plate, parameters, numbers: None, link: Link::default() }
 }
 
-/// The numbers behind `given`.
 fn numbers(words: &[&str]) -> Numbers {
-    assert_eq!(words.len(), 6, "numbers of a record");
-    let [units, rest, offset, preset, held] = [0, 1, 3, 4, 5].map(|at| decimal(words[at]));
-    Numbers { shaft: Running { units, rest }, last: decimal(words[2]), offset, preset, held, former: None }
-}
-
-/// Within the limits, with units and rest such as no place gives.
-fn unplaced(device: &Device) -> bool {
-    device.started().is_ok_and(|axis| axis.numbers.former.is_none())
+    let [place, offset, preset, held] = [0, 2, 3, 4].map(|at| decimal(words[at]));
+    Numbers { place, last: decimal(words[1]), offset, preset, held }
 }
 
 /// The figures behind `keep`: six states, counter, expected value and code. Those from the sixth on may be missing and
@@ -105,9 +78,9 @@ fn axis_line(device: &Device, answer: Result<(), u8>) -> String {
         return format!("  refused {number}");
     }
     let axis = device.started().expect("an accepted call leaves a started axis");
-    let Numbers { shaft, offset, preset, held, .. } = axis.numbers;
-    let (position, unshifted, rest) = (axis.position(), axis.unshifted(), shaft.rest);
-    format!("  at {position} unshifted {unshifted} rest {rest} offset {offset} preset {preset} stored {held}")
+    let Numbers { offset, preset, held, .. } = axis.numbers;
+    let (position, unshifted) = (axis.position(), axis.unshifted());
+    format!("  at {position} unshifted {unshifted} offset {offset} preset {preset} stored {held}")
 }
 
 fn list_line<T>(begin: &str, list: &[T], show: impl Fn(&T) -> String) -> String {
@@ -125,7 +98,7 @@ fn list(device: &mut Device, words: &[&str], kinds: &mut Kinds) -> Vec<String> {
     let raws: Vec<u32> = words[1..].iter().map(|word| decimal(word)).collect();
     let running = device.running_pass(&raws, positions.len(), kinds);
     let answer = device.pass(&raws, &mut positions);
-    assert_eq!(running, answer.map(|()| positions.clone()), "left by No. 4, right by single readings");
+    assert_eq!(running, answer.map(|()| positions.clone()), "left by units and rest, right by the place");
     assert_eq!(kinds.differences, 0, "units and rest after each entry");
     vec![axis_line(device, answer), list_line("  list", &positions, |position| format!(" {position}"))]
 }
@@ -186,7 +159,6 @@ fn replay(text: &str) -> BTreeMap<String, usize> {
 }
 
 /// Replays a text and counts the calls, by class and kind, whose answers are those of the model, and the moves in passes.
-/// A call that is taken on a record such as no place gives is counted as `unplaced` too.
 fn replay_passes(text: &str) -> (BTreeMap<String, usize>, Kinds) {
     let lines: Vec<&str> = text.lines().collect();
     let (mut axis, mut counts, mut kinds) = (None, BTreeMap::new(), Kinds::default());
@@ -202,10 +174,8 @@ fn replay_passes(text: &str) -> (BTreeMap<String, usize>, Kinds) {
         }
         let device = axis.as_mut().expect("an axis before the call");
         let stored: Vec<&str> = lines[index + 1..].iter().copied().take_while(|line| line.starts_with("  ")).collect();
-        let class = if device.parameters.class4 == 1 { 4 } else { 2 };
-        let mut count = |kind: &str| *counts.entry(format!("{class} {kind}")).or_default() += 1;
         match words[0] {
-            "given" => device.bring(numbers(&words[1..])),
+            "given" => device.numbers = Some(numbers(&words[1..])),
             "keep" => device.link = link(&words[1..]),
             "diagnose" => {
                 let lines = diagnosis(device, &words[1..]);
@@ -217,14 +187,8 @@ fn replay_passes(text: &str) -> (BTreeMap<String, usize>, Kinds) {
                 assert_eq!(stored, lines, "left as stored, right as calculated");
             }
         }
-        count(words[0]);
-        if words[0] == "given" && device.started().is_err() {
-            count("given outside");
-        }
-        let refused = stored.first().is_some_and(|line| line.starts_with("  refused"));
-        if unplaced(device) && !refused {
-            count(&format!("{} unplaced", words[0]));
-        }
+        let class = if device.parameters.class4 == 1 { 4 } else { 2 };
+        *counts.entry(format!("{class} {}", words[0])).or_default() += 1;
     }
     (counts, kinds)
 }
@@ -241,7 +205,6 @@ fn stored_answers() {
     }
     println!("passes by units and rest: {kinds:?}");
     assert!(kinds.all_came() && kinds.entries >= ENTRIES, "every kind of move in passes, and {ENTRIES} entries");
-    assert!(kinds.placed >= PLACED, "{PLACED} entries compared with a place");
 }
 
 #[test]
@@ -253,7 +216,7 @@ fn telegram_83_by_hand() {
 #[test]
 fn bit_31_by_hand() {
     let counts = replay(include_str!("bit31.txt"));
-    assert_eq!((counts["2 exchange"], counts["4 exchange"]), (47, 3));
+    assert_eq!((counts["2 exchange"], counts["4 exchange"]), (46, 3));
     assert_eq!((counts["2 measured"], counts["4 measured"]), (1, 3));
     assert_eq!((counts["2 keep"], counts["4 keep"]), (9, 3));
 }

@@ -16,5 +16,5 @@ module _ (s : State) (p : ℕ) (g : ℤ) (lim : Limits s.axis) (v : ℤ) where
   unfolding presetted unshifted_of rules_on
   stands-preset relative =
       let a = s.axis in
-      let t = kept-preset (rules_on a) a.shaft lim.shaft (asked a v relative) (asked-lt a lim v relative) in
+      let t = kept-preset (rules_on a) lim.shaft.sound a.shaft (asked a v relative) (asked-lt a lim v relative) in
       record { device = refl; ledger = refl; kept = rw (put_is a lim v relative) t }

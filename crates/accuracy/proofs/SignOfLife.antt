@@ -6,7 +6,7 @@ use Rattle.integer.specs.{◌modulo◌, big_endian}
 use Rattle.ring.specs.{in_range}
 use Rattle.encoder.specs.{plate_refusal, fields_refusal, refusal_on, rules_of, rules_fit}
 use Rattle.sensor.specs.{step_refusal}
-use Rattle.axis_shaft.specs.{inside, oriented, started, difference, shorter, move_of, move_refusal, moved_to, position_at, shaft_refusal}
+use Rattle.axis_shaft.specs.{inside, oriented, started, difference, shorter, move_of, move_refusal, moved_to, unshifted, position_at, shaft_refusal}
 use Rattle.axis.specs.{rules_on, acceptable, axis_refusal, unshifted_of, position_of, reported, start_refusal, start, at_raw, read_raw_refusal, read_raw, asked, presetted}
 use Rattle.cyclic_link.specs.{life_of, counter, expected, Class4.made, Class4.link, code, link_refusal, within}
 use Rattle.cyclic.specs.{faulty_at, taken_at, counted, sign, Class4.axis, link_after, axis_after, length_refusal, cycle_refusal, cycle}
@@ -35,7 +35,7 @@ unfolding start_refusal step_refusal refusal_on plate_refusal fields_refusal
 started-there = refl
 
 presets : forgets_life.position (second forgets_life) ≡ at 0 1
-unfolding ◌modulo◌ big_endian in_range plate_refusal fields_refusal refusal_on rules_of rules_fit step_refusal inside oriented started difference shorter move_of move_refusal moved_to position_at shaft_refusal rules_on acceptable axis_refusal unshifted_of position_of reported start_refusal start at_raw read_raw_refusal read_raw asked presetted life_of counter expected made link code link_refusal within faulty_at taken_at counted sign axis link_after axis_after length_refusal cycle_refusal cycle
+unfolding ◌modulo◌ big_endian in_range plate_refusal fields_refusal refusal_on rules_of rules_fit step_refusal inside oriented started difference shorter move_of move_refusal moved_to unshifted position_at shaft_refusal rules_on acceptable axis_refusal unshifted_of position_of reported start_refusal start at_raw read_raw_refusal read_raw asked presetted life_of counter expected made link code link_refusal within faulty_at taken_at counted sign axis link_after axis_after length_refusal cycle_refusal cycle
 presets = refl
 
 no-preset : (p : Program) → Claim p → p.position (second p) ≡ at 0 1 → ⊥

@@ -33,7 +33,7 @@ module _ (s : State) (p : ℕ) (g : ℤ) (lim : Limits s.axis) (k : Keeps s p g)
   -- so the position agrees
   pub stands-agrees : Agrees (device_of s.axis) (ledger_of s p g) (position_of s.axis)
   unfolding position_of rules_on
-  stands-agrees = agrees (device_of s.axis) (ledger_of s p g) s.axis.shaft lim.shaft s.axis.offset k
+  stands-agrees = agrees (device_of s.axis) lim.shaft.sound (ledger_of s p g) s.axis.shaft s.axis.offset k
 
   -- ---- a raw number that is accepted
   pub stands-moved : (raw : ℕ) (m : ℕ → ℤ) → TrueSteps (device_of s.axis) s.axis.shaft.last.0 raw (m 0)

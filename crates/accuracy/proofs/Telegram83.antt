@@ -5,7 +5,7 @@ use Rattle.integer.specs.{◌modulo◌, clamp, big_endian, octets}
 use Rattle.ring.specs.{in_range, complement}
 use Rattle.encoder.specs.{plate_refusal, fields_refusal, refusal_on, rules_of, rules_fit}
 use Rattle.sensor.specs.{step_refusal}
-use Rattle.axis_shaft.specs.{inside, oriented, started, difference, shorter, move_of, move_refusal, moved_to, position_at, shaft_refusal}
+use Rattle.axis_shaft.specs.{inside, oriented, started, difference, shorter, move_of, move_refusal, moved_to, unshifted, position_at, shaft_refusal}
 use Rattle.axis.specs.{rules_on, acceptable, axis_refusal, unshifted_of, position_of, start_refusal, start, at_raw, read_raw_refusal, read_raw}
 use Rattle.axis_velocity.specs.{factor_of, rate_of}
 use Rattle.cyclic_link.specs.{life_of, Class4.made, Class4.link, code, zsw, link_refusal, within}
@@ -37,7 +37,7 @@ unfolding Supposed refusal83 move_refusal difference oriented ◌modulo◌ rules
 stands-still = (record { small = omega arith; times = pos 0; same = refl }, tt)
 
 shows : shifts_octets.lent (first shifts_octets) measures ≡ o 0 0 0 0 ++ o 0x02 0x00 0x20 0x00 ++ o 0 0 0 1 ++ o 0 0 0 1
-unfolding ◌modulo◌ clamp big_endian octets in_range complement plate_refusal fields_refusal refusal_on rules_of rules_fit step_refusal inside oriented started difference shorter move_of move_refusal moved_to position_at shaft_refusal rules_on acceptable axis_refusal unshifted_of position_of start_refusal start at_raw read_raw_refusal read_raw factor_of rate_of made link life_of code zsw link_refusal within faulty_at taken_at counted axis input link_after axis_after input_of nist_b input83 refusal83 cycle83_refusal cycle83_input
+unfolding ◌modulo◌ clamp big_endian octets in_range complement plate_refusal fields_refusal refusal_on rules_of rules_fit step_refusal inside oriented started difference shorter move_of move_refusal moved_to unshifted position_at shaft_refusal rules_on acceptable axis_refusal unshifted_of position_of start_refusal start at_raw read_raw_refusal read_raw factor_of rate_of made link life_of code zsw link_refusal within faulty_at taken_at counted axis input link_after axis_after input_of nist_b input83 refusal83 cycle83_refusal cycle83_input
 shows = refl
 
 read-there : (p : Program) → Claim p → p.lent (first p) measures ≡ o 0 0 0 0 ++ o 0x02 0x00 0x20 0x00 ++ o 0 0 0 1 ++ o 0 0 0 1 → ⊥

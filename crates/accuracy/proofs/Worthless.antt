@@ -7,7 +7,7 @@ use Rattle.ring.specs.{in_range}
 use Rattle.phase.proofs.{off-is}
 use Rattle.encoder.specs.{plate_refusal, fields_refusal, refusal_on, rules_of, rules_fit}
 use Rattle.sensor.specs.{step_refusal}
-use Rattle.axis_shaft.specs.{inside, oriented, started, difference, shorter, move_of, move_refusal, moved_to, position_at, shaft_refusal, refusal_in}
+use Rattle.axis_shaft.specs.{inside, oriented, started, difference, shorter, move_of, move_refusal, moved_to, unshifted, position_at, shaft_refusal, refusal_in}
 use Rattle.axis_offset.specs.{value_refusal}
 use Rattle.axis.specs.{rules_on, acceptable, axis_refusal, unshifted_of, position_of, reported, start_refusal, start, at_raw, read_raw_refusal, read_raw, preset_refusal}
 use Rattle.axis.specs.{asked, presetted, preset}
@@ -16,7 +16,7 @@ use Rattle.cyclic_link.specs.{life_of, Class2.made, Class2.link, link_refusal, w
 use Rattle.cyclic.specs.{faulty_at, taken_at, Class2.axis, Class2.input, length_refusal, cycle_refusal, link_after, axis_after, input_of, cycle, cycle_input}
 use Rattle.accuracy.specs.{Call, raw_reading, batching, presetting, cycling, force, deed, with_readings, Program, Supposed, off, Entries, read_singly, Accurate}
 use Rattle.accuracy.specs.{Claim.Claim, library, at, always0, turns_away, claims_half_range, ignores_readings, ignores_presets, copies_first, scales_afresh, wraps_at_c}
-use Rattle.accuracy.specs.{drops_rest, adds_rounded, always_absolute, presets_when_faulty, forgets_link, forgets_due, shows_fresh, listing}
+use Rattle.accuracy.specs.{cuts_place, adds_rounded, always_absolute, presets_when_faulty, forgets_link, forgets_due, shows_fresh, listing}
 use Rattle.accuracy.proofs.OneUnit.{told}
 use Rattle.accuracy.proofs.Listing.{first, there, started-there, begun, then, twice, steady, later, after, puts, lent, another}
 
@@ -33,8 +33,8 @@ reports : (then turns_away (raw_reading 4) ≡ at 1 1)
     × (then claims_half_range (raw_reading 4) ≡ at 1 1)
     × (then ignores_readings (raw_reading 4) ≡ at 1 1)
     × (then scales_afresh (raw_reading 4) ≡ at 1 1)
-    × (then wraps_at_c (raw_reading 4) ≡ at 0 0)
-    × (then drops_rest (raw_reading 4) ≡ at 2 2)
+    × (then wraps_at_c (raw_reading 4) ≡ at 1 1)
+    × (then cuts_place (raw_reading 4) ≡ at 2 2)
     × (then adds_rounded (raw_reading 4) ≡ at 2 2)
     × (then ignores_presets (presetting (pos 0) false) ≡ at 1 1)
     × (always_absolute.position (begun always_absolute) ≡ at 1 1)
@@ -47,7 +47,7 @@ reports : (then turns_away (raw_reading 4) ≡ at 1 1)
     × (twice forgets_due (asks 28 7) (asks 28 0) ≡ at 1 1)
     × (copies_first.lent (begun copies_first) pass ≡ 3 ∷ 3 ∷ [])
     × (then library (raw_reading 3) ≡ at 2 2)
-unfolding ◌modulo◌ in_range big_endian fields_refusal refusal_on plate_refusal rules_of rules_fit inside oriented started difference shorter move_of move_refusal moved_to position_at shaft_refusal rules_on acceptable axis_refusal unshifted_of position_of reported start_refusal start step_refusal at_raw read_raw_refusal read_raw value_refusal preset_refusal asked presetted preset faulty_at taken_at made axis length_refusal cycle_refusal axis_after input_of cycle cycle_input link_after link input octets first_refusal positions_of batch_refusal batch_list life_of link_refusal within
+unfolding ◌modulo◌ in_range big_endian fields_refusal refusal_on plate_refusal rules_of rules_fit inside oriented started difference shorter move_of move_refusal moved_to unshifted position_at shaft_refusal rules_on acceptable axis_refusal unshifted_of position_of reported start_refusal start step_refusal at_raw read_raw_refusal read_raw value_refusal preset_refusal asked presetted preset faulty_at taken_at made axis length_refusal cycle_refusal axis_after input_of cycle cycle_input link_after link input octets first_refusal positions_of batch_refusal batch_list life_of link_refusal within
 reports = (refl, refl, refl, refl, refl, refl, refl, refl, refl, refl, refl, refl, refl, refl, refl, refl, refl, refl)
 
 -- the true steps are as supposed
@@ -82,10 +82,10 @@ pub no-scales_afresh : Claim scales_afresh → ⊥
 no-scales_afresh h = too_far scales_afresh 1 1 h reports.3 (omega arith)
 
 pub no-wraps_at_c : Claim wraps_at_c → ⊥
-no-wraps_at_c h = too_far wraps_at_c 0 0 h reports.4 (omega arith)
+no-wraps_at_c h = too_far wraps_at_c 1 1 h reports.4 (omega arith)
 
-pub no-drops_rest : Claim drops_rest → ⊥
-no-drops_rest h = too_far drops_rest 2 2 h reports.5 (omega arith)
+pub no-cuts_place : Claim cuts_place → ⊥
+no-cuts_place h = too_far cuts_place 2 2 h reports.5 (omega arith)
 
 pub no-adds_rounded : Claim adds_rounded → ⊥
 no-adds_rounded h = too_far adds_rounded 2 2 h reports.6 (omega arith)

@@ -11,7 +11,7 @@ pub use Ledger.{Deed, Device, cycle_preset, deed, does, due2, due_after, exchang
 unfoldable pub use Claim.{Accurate, Entries, Supposed, read_singly}
 pub use Claim.{Agrees, Event, Lent, Program, Reports, Rule6, Shown, TrueSteps, number, off}
 pub use Run.{State, begin, both, lent_by, library, to, yields}
-pub use Worthless.{adds_rounded, always0, always_absolute, at, claims_half_range, copies_first, drops_rest, forgets_due, forgets_life, forgets_link, ignores_presets, ignores_readings, presets_when_faulty, scales_afresh, shifts_octets, shows_fresh, turns_away, wraps_at_c}
+pub use Worthless.{adds_rounded, always0, always_absolute, at, claims_half_range, copies_first, cuts_place, forgets_due, forgets_life, forgets_link, ignores_presets, ignores_readings, presets_when_faulty, scales_afresh, shifts_octets, shows_fresh, turns_away, wraps_at_c}
 pub use Ours.{ours}
 unfoldable pub use Worked.{traced}
 pub use Worked.{begun, device4, listing, run2, run4, run4l, run4u}

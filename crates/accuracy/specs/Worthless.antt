@@ -1,8 +1,8 @@
 -- Programs that document 01 would send back ("Programs we would send back", "Traps on the bench"), each as ours but for one thing. Each breaks the
 -- claim: proofs/Worthless.antt, for the octets of telegram 83 proofs/Telegram83.antt, and for the sign of life proofs/SignOfLife.antt.
-use Rattle.integer.specs.Base.{Bool, false, cond, List, ◌++◌, ℕ, ◌%◌, eqb, pos, ◌+ℤ◌, ◌-ℤ◌, ◌*ℤ◌, length, get_or, take, drop, replicate, quot_z}
+use Rattle.integer.specs.Base.{Bool, false, cond, List, ◌++◌, ℕ, ◌*◌, ◌/◌, ◌%◌, eqb, pos, ◌+ℤ◌, ◌-ℤ◌, ◌*ℤ◌, length, get_or, take, drop, replicate, quot_z}
 use Rattle.integer.specs.{◌modulo◌}
-use Rattle.axis_shaft.specs.{phase_of, at_phase, started, move_of, Reported, At}
+use Rattle.axis_shaft.specs.{oriented, move_of, Reported, At}
 use Rattle.axis.specs.{Axis, rules_on, unshifted_of, position_of, reported, with_shaft}
 use Rattle.cyclic_link.specs.{Link, counting, quiet}
 use Rattle.cyclic.specs.{faulty_at}
@@ -33,6 +33,9 @@ leaves f =
       lent = lent_by;
     }
 
+abbrev pub placed : Axis → ℕ → Axis
+placed a place = with_shaft a (record { place = record { 0 = place }; last = a.shaft.last })
+
 abbrev pub turns_away : Program
 turns_away = leaves (λ a b. a)
 
@@ -40,28 +43,19 @@ abbrev pub claims_half_range : Program
 claims_half_range = leaves (λ a b. with_shaft b a.shaft)
 
 abbrev pub ignores_readings : Program
-ignores_readings = leaves (λ a b. with_shaft b (record { units = a.shaft.units; rest = a.shaft.rest; last = b.shaft.last }))
+ignores_readings = leaves (λ a b. placed b a.shaft.place.0)
 
 abbrev pub scales_afresh : Program
-scales_afresh = leaves (λ a b. with_shaft b (started (rules_on b) b.shaft.last.0))
+scales_afresh = leaves (λ a b. placed b (oriented (rules_on b) b.shaft.last.0))
 
--- keeps unshifted × R + rest modulo C, and not modulo R × L
+-- keeps the place modulo C, and not modulo R × L
 abbrev pub wraps_at_c : Program
-wraps_at_c = leaves (λ a b. with_shaft b (at_phase (rules_on b) (phase_of (rules_on b) b.shaft % (rules_on b).capacity.0) b.shaft.last.0))
+wraps_at_c = leaves (λ a b. placed b (b.shaft.place.0 % (rules_on b).capacity.0))
 
--- drops the rest, from the start on, so that the next move is added to a rounded position
-abbrev pub cut : State → State
-cut s = record { axis = with_shaft s.axis (record { units = s.axis.shaft.units; rest = 0; last = s.axis.shaft.last }); link = s.link }
-
-abbrev pub drops_rest : Program
-drops_rest =
-    record {
-      State = State;
-      start = λ n p first. cut (begin n p first);
-      call = λ s c. cut (yields s c);
-      position = λ s. reported s.axis;
-      lent = lent_by;
-    }
+-- cuts the place to whole units, so that the next move is added to a rounded position
+abbrev pub cuts_place : Program
+cuts_place =
+    leaves (λ a b. placed b (b.shaft.place.0 * (rules_on b).scale.0 / (rules_on b).steps.0 * (rules_on b).steps.0 / (rules_on b).scale.0))
 
 -- ---- another call in the place of the one that came: other raw numbers of a batch, another kind of preset, another raw number of a cycle
 abbrev pub instead : (List ℕ → List ℕ) → (Bool → Bool) → (ℕ → ℕ) → Call → Call

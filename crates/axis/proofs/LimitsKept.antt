@@ -7,12 +7,13 @@ use Rattle.encoder.specs.{Nameplate, Parameters, wrong_turn, wrong_preset, class
 use Rattle.encoder.proofs.{before-none, taken-sound}
 use Rattle.sensor.specs.{raw_of, step_refusal}
 use Rattle.sensor.proofs.{reading-lt}
-use Rattle.axis_shaft.specs.{nowhere, started as shaft_started, position_at, shaft_refusal}
+use Rattle.axis_shaft.specs.{nowhere, started as shaft_started, unshifted, position_at, shaft_refusal}
 use Rattle.axis_shaft.proofs.{inside_is, nowhere-out, started-kept as shaft-started}
 use Rattle.axis_offset.specs.{value_refusal}
 use Rattle.axis.specs.{Axis, Next, rules_on, acceptable, axis_refusal, unshifted_of, position_of, next, fresh, start_refusal, start, start_raw_refusal, start_raw}
 use Rattle.axis.specs.{at_raw, read_raw_refusal, read_raw, read_refusal, read, preset_refusal, asked, presetted, preset, holding, store}
 use Rattle.axis.proofs.{AxisLaws.Limits, AxisLaws.limits_of, AxisLaws.accepts, ReadingLaws.first, ReadingLaws.at-raw-kept}
+use native.Mathlib.Nat as N
 
 pub apart-lt : (x y n : ℕ) → x < n → y < n → nat_abs (pos x -ℤ pos y) < n
 apart-lt x y n h k = let z = pos x -ℤ pos y in omega (signed, diff_is (pos x) (pos y), abs_is z, apart z)
@@ -48,13 +49,13 @@ module _ (a : Axis) (l : Limits a) where
   pub put_is : (v : ℤ) (relative : Bool) → position_of (presetted a v relative) ≡ asked a v relative
   unfolding position_of position_at presetted unshifted_of rules_on
   put_is v relative =
-      let u = a.shaft.units.0 in
+      let u = unshifted (rules_on a) a.shaft in
       let n = asked a v relative in
       modulo-is (pos u +ℤ (pos n -ℤ pos u)) 0 0 (asked-lt v relative) (omega (arith, add_is (pos u) (pos n -ℤ pos u), diff_is (pos n) (pos u)))
 
   pub unshifted-lt : unshifted_of a < (rules_on a).span.0
-  unfolding unshifted_of
-  unshifted-lt = l.shaft.units
+  unfolding unshifted_of unshifted
+  unshifted-lt = N.mod-lt _ span-least
 
   value-lt : (v : ℤ) → preset_refusal a v ≡ 0 → nat_abs v < (rules_on a).span.0
   unfolding preset_refusal value_refusal in_range

@@ -87,7 +87,7 @@ module _ (n : Nameplate) (p : Parameters) (e : Effect) (e-is : e ≡ in_force n 
     parameters-none : refusal_on n p ≡ 0
     parameters-none = (in-force-taken n p e f h e-is).0
 
-    -- the shaft answers 9 for a raw number of C or above, and else where it stands
+    -- the shaft answers 9 for a raw number of C or above, and else its place
     begun-next : (raw : ℕ) (m : Moved) → m ≡ begun f raw → x ≡ begun_by n p m → x ≡ next (fresh n p nowhere) (when (leb (capacity_of n) raw) wrong_turn) (first n p raw)
     unfolding rules_of
     begun-next raw m m-is w =

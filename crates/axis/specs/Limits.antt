@@ -1,16 +1,16 @@
--- The axis record, its limits, and the position that it stands at (document 01, "The axis", rules 4 and 5; row 16 with document 02, request 5).
+-- The axis record, its limits, and the position that it stands at (document 01, "The axis", rules 4 and 5; row 16).
 use Rattle.integer.specs.Base.{◌≡◌, Bool, true, not, ◌&&◌, ℕ, ◌<◌, eqb, nat_abs}
 use Rattle.ring.specs.{in_range}
 use Rattle.encoder.specs.{InForce, Effect, Taken, Refused as NotInForce, no_axis, when, answer, fields_of, refusal_on, rules_of}
-use Rattle.axis_shaft.specs.{Reported, At, declared.Reported.TheVariants.Refused, inside, Inside, position_at}
+use Rattle.axis_shaft.specs.{Reported, At, declared.Reported.TheVariants.Refused, inside, Inside, unshifted, position_at}
 use Rattle.axis.specs.declared.Axis.{Axis}
 
 -- what is in force on an axis
 unfoldable pub rules_on : Axis → InForce
 rules_on a = rules_of a.nameplate (fields_of a.parameters)
 
--- the limits: plate and parameters acceptable, unshifted position below L, rest below R, last reading below C, and offset, last preset and held preset
--- value strictly between −L and L
+-- the limits: plate and parameters acceptable, place below R × L, last reading below C, and offset, last preset and held preset value strictly
+-- between −L and L
 abbrev pub keeps : InForce → Axis → Bool
 keeps f a =
     inside f a.shaft && in_range a.offset f.span.0 && in_range a.preset f.span.0 && in_range a.stored f.span.0
@@ -35,7 +35,7 @@ pub record Ready (a : Axis) (f : InForce) : Type 0 where
 
 -- 4. the unshifted position, and 5. the position
 unfoldable pub unshifted_of : Axis → ℕ
-unshifted_of a = a.shaft.units.0
+unshifted_of a = unshifted (rules_on a) a.shaft
 
 unfoldable pub position_of : Axis → ℕ
 position_of a = position_at (rules_on a) a.offset a.shaft

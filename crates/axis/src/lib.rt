@@ -18,7 +18,7 @@ use ring::between;
 pub struct Axis {
     pub nameplate: Nameplate,
     pub parameters: Parameters,
-    // unshifted position, rest and last reading
+    // place and last reading
     pub shaft: Shaft,
     // what presets have added to the position
     pub offset: i64,

@@ -1,4 +1,4 @@
-// Start and reading (document 01, "The axis", rules 1 to 4). The crate axis_shaft moves units and rest.
+// Start and reading (document 01, "The axis", rules 1 to 4). The crate axis_shaft moves the place.
 ghost use Rattle.integer.specs.Base.{◌≡◌};
 ghost use Rattle.axis.specs.{refused, fresh, begun_by, start, start_raw, read_raw, read};
 

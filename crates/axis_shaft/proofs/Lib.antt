@@ -1,12 +1,11 @@
 pub mod SensorLaws
 pub mod ShorterWay
-pub mod StartLaws
+pub mod PlaceLaws
+pub mod ShaftLaws
 pub mod AheadLaws
 pub mod ShareLaws
-pub mod UnitsAndRest
-pub mod ShaftLaws
-pub mod AroundLaws
-pub mod MoveLaws
+pub mod RunningLaws
+pub mod EachEntry
 pub mod BatchLaws
 pub mod FollowLaws
 pub use SensorLaws.{by-refused, by-taken, move-fits, move-most, raw-lt}

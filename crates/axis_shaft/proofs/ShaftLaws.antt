@@ -1,15 +1,15 @@
 -- The limits of a shaft, as a test and as facts. Then the answers of the public functions but the batch, by the tests before them.
-use Rattle.integer.specs.Base.{◌≡◌, refl, sym, ◌∙◌, Bool, true, false, not, ◌&&◌, ℕ, zero, suc, ◌*◌, ◌^◌, ◌≤◌, ◌<◌, arith, ltb, leb, ℤ, not-true, not-false, lt-ltb}
+use Rattle.integer.specs.Base.{◌≡◌, refl, sym, ◌∙◌, Bool, true, false, not, ◌&&◌, ℕ, zero, suc, ◌%◌, ◌≤◌, ◌<◌, arith, ltb, leb, ℤ, not-true, not-false, lt-ltb}
 use Rattle.integer.specs.Base.{ltb-true, le-leb, lt-leb, w64, SFits, to_z, of_z}
 use Rattle.integer.proofs.{reads, modulo-lt}
-use Rattle.encoder.specs.{InForce, wrong_turn, no_axis, when, answer, rules_fit, Sound}
+use Rattle.encoder.specs.{Units, InForce, wrong_turn, no_axis, when, answer, rules_fit, Sound}
 use Rattle.encoder.proofs.{refused-is, before-none, when-none, and_split, sound-of, fits-of}
 use Rattle.axis_shaft.specs.{Shaft, Moved, To, declared.Moved.TheVariants.Refused as NotMoved, MovedBy, declared.MovedBy.TheVariants.To as ToBy}
 use Rattle.axis_shaft.specs.{declared.MovedBy.TheVariants.Refused as NotMovedBy, Approach, By}
-use Rattle.axis_shaft.specs.{declared.Approach.TheVariants.Refused as NotApproached, At, declared.Reported.TheVariants.Refused, period, at_phase, inside, Inside, Ahead}
-use Rattle.axis_shaft.specs.{nowhere, oriented, started, move_of, move_refusal, moved_to, position_at, approach_from, begin_refusal, begun, shaft_refusal}
+use Rattle.axis_shaft.specs.{declared.Approach.TheVariants.Refused as NotApproached, At, declared.Reported.TheVariants.Refused, period, inside, Inside}
+use Rattle.axis_shaft.specs.{nowhere, oriented, started, move_of, move_refusal, moved_to, unshifted, position_at, approach_from, begin_refusal, begun, shaft_refusal}
 use Rattle.axis_shaft.specs.{approached, moved, moved_by, reported_at}
-use Rattle.axis_shaft.proofs.{SensorLaws.move-fits, SensorLaws.by-taken, SensorLaws.by-refused, StartLaws.period-least, StartLaws.units_lt, ShareLaws.single-ahead}
+use Rattle.axis_shaft.proofs.{SensorLaws.move-fits, SensorLaws.raw-lt, SensorLaws.by-taken, SensorLaws.by-refused, PlaceLaws.period-least}
 use native.Mathlib.Nat as N
 
 -- ---- the limits
@@ -17,30 +17,27 @@ pub inside-true : (f : InForce) (k : Shaft) → inside f k ≡ true → Inside f
 unfolding inside
 inside-true f k e =
     let a = and_split (rules_fit f) _ e in
-    let b = and_split (ltb k.units.0 f.span.0 && ltb k.rest f.steps.0) (ltb k.last.0 f.capacity.0) a.1 in
-    let c = and_split (ltb k.units.0 f.span.0) (ltb k.rest f.steps.0) b.0 in
-    record { sound = sound-of f a.0; units = ltb-true _ _ c.0; rest = ltb-true _ _ c.1; last = ltb-true _ _ b.1 }
+    let b = and_split (ltb k.place.0 (period f)) (ltb k.last.0 f.capacity.0) a.1 in
+    record { sound = sound-of f a.0; place = ltb-true _ _ b.0; last = ltb-true _ _ b.1 }
 
 pub inside_is : (f : InForce) (k : Shaft) → Inside f k → inside f k ≡ true
 unfolding inside
-inside_is f k i = rw (fits-of f i.sound, lt-ltb _ _ i.units, lt-ltb _ _ i.rest, lt-ltb _ _ i.last)
+inside_is f k i = rw (fits-of f i.sound, lt-ltb _ _ i.place, lt-ltb _ _ i.last)
 
 -- before a first reading nothing is within them
 pub nowhere-out : (f : InForce) (b : Bool) → inside f nowhere ≡ b → b ≡ false
 nowhere-out f true e = let i = inside-true f nowhere e in absurd (omega (arith, i.last, i.sound.capacity-most))
 nowhere-out f false e = refl
 
--- a phase below R × L is within them; so are a start and a reading that is taken
-phase-kept : (f : InForce) (x raw : ℕ) → Sound f → x < period f → raw < f.capacity.0 → Inside f (at_phase f x raw)
-phase-kept f x raw s lt h = record { sound = s; units = units_lt f s x lt; rest = N.mod-lt x s.steps-least; last = h }
-
+-- a start and a reading that is taken are within them
 pub started-kept : (f : InForce) (raw : ℕ) → Sound f → raw < f.capacity.0 → Inside f (started f raw)
 unfolding started
-started-kept f raw s h = phase-kept f _ raw s (N.mod-lt (oriented f raw * f.scale.0) (period-least f s)) h
+started-kept f raw s h = record { sound = s; place = N.mod-lt (oriented f raw) (period-least f s); last = h }
 
 pub moved-kept : (f : InForce) (k : Shaft) (raw : ℕ) → Inside f k → raw < f.capacity.0 → Inside f (moved_to f k raw)
 unfolding moved_to
-moved-kept f k raw i h = phase-kept f _ raw i.sound (modulo-lt _ (period-least f i.sound)) h
+moved-kept f k raw i h =
+    record { sound = i.sound; place = modulo-lt _ (period-least f i.sound); last = h }
 
 module _ (f : InForce) (b : Bool) where
   pub sound-by : not b ≡ false → b ≡ rules_fit f → Sound f
@@ -50,12 +47,12 @@ module _ (f : InForce) (b : Bool) where
   unfolding inside
   inside-no k t e = rw (← e, not-true b t)
 
-  pub inside_on : (k : Shaft) → not b ≡ false → b ≡ rules_fit f
-      → (ltb k.units.0 f.span.0 && ltb k.rest f.steps.0 && ltb k.last.0 f.capacity.0) ≡ inside f k
+  pub inside_on : (k : Shaft) (n : ℕ) → n ≡ period f → not b ≡ false → b ≡ rules_fit f
+      → (ltb k.place.0 n && ltb k.last.0 f.capacity.0) ≡ inside f k
   unfolding inside
-  inside_on k t e = rw (← e, not-false b t)
+  inside_on k n n-is t e = rw (← e, not-false b t, n-is)
 
-pub ruleset limits = (inside-no, inside_on)
+pub ruleset limits = (sound-by, inside-no, inside_on)
 
 -- ---- the start
 module _ (f : InForce) (raw : ℕ) (b : Bool) where
@@ -67,9 +64,10 @@ module _ (f : InForce) (raw : ℕ) (b : Bool) where
   unfolding begun begin_refusal
   begun-9 h t e = rw (← e, not-false b t, le-leb _ _ h)
 
-  pub begun_to : (k : Shaft) → k ≡ started f raw → raw < f.capacity.0 → not b ≡ false → b ≡ rules_fit f → To k ≡ begun f raw
-  unfolding begun begin_refusal
-  begun_to k k-is h t e = rw (← e, not-false b t, lt-leb _ _ h, k-is)
+  pub begun_to : (first n : ℕ) → first ≡ oriented f raw → n ≡ period f → raw < f.capacity.0 → not b ≡ false → b ≡ rules_fit f
+      → To (record { place = record { 0 = first % n }; last = record { 0 = raw } }) ≡ begun f raw
+  unfolding begun begin_refusal started
+  begun_to first n first-is n-is h t e = rw (← e, not-false b t, lt-leb _ _ h, first-is, n-is)
 
 pub ruleset starts = (sound-by, begun-16, begun-9, begun_to)
 
@@ -89,10 +87,10 @@ module _ (f : InForce) (k : Shaft) (b : Bool) where
     unfolding reported_at
     reported-16 t e = rw (← e, not-true b t)
 
-    pub reported-at : (p : ℕ) → p ≡ position_at f (to_z w64 (of_z w64 offset)) k → not b ≡ false → b ≡ inside f k
-        → At (record { 0 = p }) k.units ≡ reported_at f offset k
+    pub reported-at : (p : ℕ) (u : Units) → p ≡ position_at f (to_z w64 (of_z w64 offset)) k → u.0 ≡ unshifted f k → not b ≡ false → b ≡ inside f k
+        → At (record { 0 = p }) u ≡ reported_at f offset k
     unfolding reported_at
-    reported-at p p-is t e = rw (← e, not-false b t, p-is, reads fits)
+    reported-at p u p-is u-is t e = rw (← e, not-false b t, p-is, ← u-is, reads fits)
 
   module _ (raw : ℕ) where
     pub approached-16 : not b ≡ true → b ≡ inside f k → NotApproached 16 ≡ approached f k raw
@@ -119,8 +117,8 @@ module _ (f : InForce) (k : Shaft) (raw : ℕ) (e : Approach) (e-is : e ≡ appr
     pub moved_inside : Inside f k
     moved_inside = inside-true f k (when-none (inside f k) 15 refusals-none.0)
 
-    pub moved-ahead : Ahead f (2 ^ 31)
-    moved-ahead = single-ahead f moved_inside.sound
+    pub moved-lt : raw < f.capacity.0
+    moved-lt = raw-lt f k.last.0 raw refusals-none.1
 
     pub moved_by : to_z w64 (of_z w64 d) ≡ move_of f k.last.0 raw
     moved_by = let i = approach-taken.1 in rw (i, reads (move-fits f k.last.0 raw moved_inside.sound))
@@ -147,7 +145,7 @@ module _ (f : InForce) (k : Shaft) (raw : ℕ) (e : Approach) (e-is : e ≡ appr
       let i = by-refused e (move_of f k.last.0 raw) (shaft_refusal f k raw) n h e-is in
       rw (i.0, refused-is NotMovedBy (ToBy (moved_to f k raw) (move_of f k.last.0 raw)) n i.1)
 
-pub ruleset moves = (moved_inside, moved-ahead, moved_by, moved-to, moved-no, moved-by-to, moved-by-no)
+pub ruleset moves = (moved_inside, moved-lt, moved_by, moved-to, moved-no, moved-by-to, moved-by-no)
 
 -- ---- from the answers back to the numbers
 pub to-taken : (e : Moved) (k m : Shaft) (n : ℕ) → e ≡ To m → e ≡ answer NotMoved (To k) n → (n ≡ 0) × (m ≡ k)
@@ -171,7 +169,7 @@ module _ (f : InForce) (k : Shaft) (i : Inside f k) where
   unfolding shaft_refusal
   read-refusal raw = rw (inside_is f k i)
 
-  pub reported-is : (offset : ℤ) → reported_at f offset k ≡ At (record { 0 = position_at f offset k }) k.units
+  pub reported-is : (offset : ℤ) → reported_at f offset k ≡ At (record { 0 = position_at f offset k }) (record { 0 = unshifted f k })
   unfolding reported_at
   reported-is offset = rw (inside_is f k i)
 

@@ -1,6 +1,5 @@
--- The shaft: the unshifted position, the rest, and the last reading (document 01, "The axis", rules 1 to 5, with document 02, request 5: the unshifted
--- position and the rest that the division left are kept; rows 9, 10 and 16).
-use Rattle.integer.specs.Base.{Bool, cond, not, ◌&&◌, ℕ, ◌+◌, ◌-◌, ◌*◌, ◌/◌, ◌%◌, ◌^◌, ◌<◌, eqb, ltb, leb, ℤ, pos, neg_ℤ, ◌+ℤ◌, ◌-ℤ◌, ◌*ℤ◌}
+-- The shaft: its place and its last reading (document 01, "The axis", rules 1 to 5; rows 9, 10 and 16).
+use Rattle.integer.specs.Base.{Bool, cond, not, ◌&&◌, ℕ, ◌-◌, ◌*◌, ◌/◌, ◌%◌, ◌^◌, ◌<◌, eqb, ltb, leb, ℤ, pos, neg_ℤ, ◌+ℤ◌, ◌-ℤ◌}
 use Rattle.integer.specs.{◌modulo◌}
 use Rattle.encoder.specs.{InForce, wrong_turn, half_range, no_axis, when, ◌before◌, answer, rules_fit, Sound}
 use Rattle.axis_shaft.specs.{declared.Shaft.Shaft, declared.Moved.Moved, declared.Moved.TheVariants.To, declared.Moved.TheVariants.Refused as NotMoved}
@@ -8,39 +7,31 @@ use Rattle.axis_shaft.specs.{declared.Approach.Approach, declared.Approach.TheVa
 use Rattle.axis_shaft.specs.{declared.MovedBy.MovedBy, declared.MovedBy.TheVariants.To as ToBy, declared.MovedBy.TheVariants.Refused as NotMovedBy}
 use Rattle.axis_shaft.specs.{declared.Reported.Reported, declared.Reported.TheVariants.At, declared.Reported.TheVariants.Refused}
 
--- the limits: what is in force is within its own, the unshifted position is below L, the rest below R, and the last reading below C (row 16, request 5)
+-- R × L, steps × range. After so many steps place and position repeat: they are L turns, and M total ranges
+abbrev pub period : InForce → ℕ
+period f = f.steps.0 * f.span.0
+
+-- the limits: what is in force is within its own, the place is below R × L and the last reading below C
 unfoldable pub inside : InForce → Shaft → Bool
-inside f k = rules_fit f && (ltb k.units.0 f.span.0 && ltb k.rest f.steps.0 && ltb k.last.0 f.capacity.0)
+inside f k = rules_fit f && (ltb k.place.0 (period f) && ltb k.last.0 f.capacity.0)
 
 -- the same, as facts
 pub record Inside (f : InForce) (k : Shaft) : Type 0 where
   pub sound : Sound f
-  pub units : k.units.0 < f.span.0
-  pub rest : k.rest < f.steps.0
+  pub place : k.place.0 < period f
   pub last : k.last.0 < f.capacity.0
 
 -- before a first reading; no sensor has such a last reading
 abbrev pub nowhere : Shaft
-nowhere = record { units = record { 0 = 0 }; rest = 0; last = record { 0 = 2 ^ 64 - 1 } }
-
--- ---- the phase: unshifted × R + rest. R parts are a unit, M parts are a step, and R × L parts are the total range
-abbrev pub phase_of : InForce → Shaft → ℕ
-phase_of f k = k.units.0 * f.steps.0 + k.rest
-
-abbrev pub period : InForce → ℕ
-period f = f.steps.0 * f.span.0
-
--- 4. the unshifted position is the phase / R, rounded down; the rest is what the division left (request 5)
-abbrev pub at_phase : InForce → ℕ → ℕ → Shaft
-at_phase f x raw = record { units = record { 0 = x / f.steps.0 }; rest = x % f.steps.0; last = record { 0 = raw } }
+nowhere = record { place = record { 0 = 0 }; last = record { 0 = 2 ^ 64 - 1 } }
 
 -- 1. the oriented number is the raw number, or with the code sequence in force (C − raw) modulo C
 unfoldable pub oriented : InForce → ℕ → ℕ
 oriented f raw = cond f.reversed ((f.capacity.0 - raw) % f.capacity.0) raw
 
--- 2, 4. a first reading: the phase is oriented × M, and is kept modulo R × L from the start on (request 5)
+-- 2, 4. the place is at first the oriented number, and is kept modulo R × L from the start on
 unfoldable pub started : InForce → ℕ → Shaft
-started f raw = at_phase f (oriented f raw * f.scale.0 % period f) raw
+started f raw = record { place = record { 0 = oriented f raw % period f }; last = record { 0 = raw } }
 
 -- 3. the difference of oriented numbers modulo C
 unfoldable pub difference : InForce → ℕ → ℕ → ℕ
@@ -50,7 +41,7 @@ difference f last raw = (pos (oriented f raw) -ℤ pos (oriented f last)) modulo
 unfoldable pub shorter : ℕ → ℕ → ℤ
 shorter n c = cond (ltb n (c - n)) (pos n) (neg_ℤ (pos (c - n)))
 
--- d, the difference taken the shorter way
+-- a new reading moves the place by d, the difference taken the shorter way
 unfoldable pub move_of : InForce → ℕ → ℕ → ℤ
 move_of f last raw = shorter (difference f last raw) f.capacity.0
 
@@ -66,13 +57,17 @@ move_refusal f last raw = when (leb f.capacity.0 raw) wrong_turn before half_ref
 unfoldable pub approach_from : InForce → ℕ → ℕ → Approach
 approach_from f last raw = answer NotApproached (By (move_of f last raw)) (move_refusal f last raw)
 
--- 3, 4. a new reading moves unshifted × R + rest by d × M, modulo R × L (request 5)
+-- 3, 4. the shaft after the reading
 unfoldable pub moved_to : InForce → Shaft → ℕ → Shaft
-moved_to f k raw = at_phase f ((pos (phase_of f k) +ℤ move_of f k.last.0 raw *ℤ pos f.scale.0) modulo period f) raw
+moved_to f k raw = record { place = record { 0 = (pos k.place.0 +ℤ move_of f k.last.0 raw) modulo period f }; last = record { 0 = raw } }
+
+-- 4. the unshifted position is place × M / R rounded down, modulo L
+unfoldable pub unshifted : InForce → Shaft → ℕ
+unshifted f k = k.place.0 * f.scale.0 / f.steps.0 % f.span.0
 
 -- 5. the position is unshifted + offset, modulo L
 unfoldable pub position_at : InForce → ℤ → Shaft → ℕ
-position_at f offset k = (pos k.units.0 +ℤ offset) modulo f.span.0
+position_at f offset k = (pos (unshifted f k) +ℤ offset) modulo f.span.0
 
 -- ---- the answers, by the number of the refusal: 16, 9, 10
 unfoldable pub begin_refusal : InForce → ℕ → ℕ
@@ -95,4 +90,4 @@ unfoldable pub moved_by : InForce → Shaft → ℕ → MovedBy
 moved_by f k raw = answer NotMovedBy (ToBy (moved_to f k raw) (move_of f k.last.0 raw)) (shaft_refusal f k raw)
 
 unfoldable pub reported_at : InForce → ℤ → Shaft → Reported
-reported_at f offset k = answer Refused (At (record { 0 = position_at f offset k }) k.units) (when (not (inside f k)) no_axis)
+reported_at f offset k = answer Refused (At (record { 0 = position_at f offset k }) (record { 0 = unshifted f k })) (when (not (inside f k)) no_axis)

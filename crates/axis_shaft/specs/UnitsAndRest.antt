@@ -1,9 +1,9 @@
--- A reading by units and rest, in the words of request 4 (document 02): the new ones come from its own move and the two before it. An entry of a batch is
--- worked out so and, since request 5, a single reading too.
-use Rattle.integer.specs.Base.{cond, ℕ, ◌+◌, ◌-◌, ◌*◌, ◌/◌, ◌^◌, ◌≤◌, ltb, ℤ, pos, ◌+ℤ◌, ◌*ℤ◌}
+-- Units and rest as running values (document 02, request 4): each entry of a batch works them out from its own move and the two before it.
+use Rattle.integer.specs.Base.{cond, List, [], ◌∷◌, ℕ, ◌+◌, ◌-◌, ◌*◌, ◌/◌, ◌%◌, ◌^◌, ◌<◌, ltb, ℤ, pos, ◌+ℤ◌, ◌*ℤ◌}
 use Rattle.integer.specs.{◌modulo◌, ◌quotient◌}
 use Rattle.encoder.specs.{InForce}
-use Rattle.axis_shaft.specs.{declared.Shaft.Shaft, declared.units.Share.Share, Rules.move_of}
+use Rattle.axis_shaft.specs.{declared.Shaft.Shaft, declared.running.Running.Running, declared.running.Share.Share, declared.running.Lead.Lead}
+use Rattle.axis_shaft.specs.{Rules.move_of, Rules.moved_to, Rules.unshifted}
 
 -- q and s of a move: the whole part of d × M by R, rounded down, and the remainder
 unfoldable pub share_of : InForce → ℤ → Share
@@ -16,20 +16,59 @@ carried f rest by =
     (record { whole = by.whole; part = rest + by.part })
     (record { whole = by.whole +ℤ pos 1; part = rest + by.part - f.steps.0 })
 
--- the new units are units + q, modulo L
-unfoldable pub onward : InForce → ℕ → Share → ℕ → Shaft
-onward f units by raw = record { units = record { 0 = (pos units +ℤ by.whole) modulo f.span.0 }; rest = by.part; last = record { 0 = raw } }
+-- the new units are units + q, modulo L. A total range that ends is counted, modulo M: it tells the place and nothing else
+unfoldable pub onward : InForce → Running → Share → Running
+onward f k by =
+    record {
+      units = record { 0 = (pos k.units.0 +ℤ by.whole) modulo f.span.0 };
+      rest = by.part;
+      ranges = (pos k.ranges +ℤ (pos k.units.0 +ℤ by.whole) quotient f.span.0) modulo f.scale.0;
+      last = k.last;
+    }
 
--- the shaft after the reading. It is that of rules 3 and 4: `entry` in proofs/UnitsAndRest.antt
-unfoldable pub ran_to : InForce → Shaft → ℕ → Shaft
-ran_to f k raw = onward f k.units.0 (carried f k.rest (share_of f (move_of f k.last.0 raw))) raw
+-- the running values after one more reading
+unfoldable pub ran_to : InForce → Running → ℕ → Running
+ran_to f k raw =
+    let next = onward f k (carried f k.rest (share_of f (move_of f k.last.0 raw))) in
+    record { units = next.units; rest = next.rest; ranges = next.ranges; last = record { 0 = raw } }
 
--- ---- whole turns by which the code counts a move ahead, so that it is positive: more steps than any move has, and not too many for its words
-pub record Ahead (f : InForce) (turns : ℕ) : Type 0 where
-  pub few : turns ≤ 2 ^ 34
-  pub least : 2 ^ 31 ≤ turns * f.steps.0
-  pub most : turns * f.steps.0 ≤ 2 ^ 47
+-- those of a shaft: the unshifted position, and what dividing place × M by R leaves
+unfoldable pub running_of : InForce → Shaft → Running
+running_of f k =
+    record {
+      units = record { 0 = unshifted f k };
+      rest = k.place.0 * f.scale.0 % f.steps.0;
+      ranges = k.place.0 * f.scale.0 / f.steps.0 / f.span.0;
+      last = k.last;
+    }
 
--- those of a batch: 2^33 steps or more
-unfoldable pub lead_of : InForce → ℕ
-lead_of f = 2 ^ 33 / f.steps.0 + 1
+-- and the shaft again: place × M is (ranges × L + units) × R + rest
+unfoldable pub shaft_of : InForce → Running → Shaft
+shaft_of f k = record { place = record { 0 = ((k.ranges * f.span.0 + k.units.0) * f.steps.0 + k.rest) / f.scale.0 }; last = k.last }
+
+-- the limits: units below L, rest below R, ranges below M, last reading below C
+pub record Within (f : InForce) (k : Running) : Type 0 where
+  pub units : k.units.0 < f.span.0
+  pub rest : k.rest < f.steps.0
+  pub ranges : k.ranges < f.scale.0
+  pub last : k.last.0 < f.capacity.0
+
+-- what a batch works out once: whole turns of 2^33 steps or more, in steps and in units, and whole rounds of M total ranges, of 2^52 units or more
+unfoldable pub lead_of : InForce → Lead
+lead_of f =
+    record {
+      steps = record { 0 = (2 ^ 33 / f.steps.0 + 1) * f.steps.0 };
+      units = (2 ^ 33 / f.steps.0 + 1) * f.scale.0;
+      rounds = (2 ^ 52 / (f.scale.0 * f.span.0) + 1) * (f.scale.0 * f.span.0);
+    }
+
+-- ---- over a list of readings
+-- the running values after each entry
+unfoldable pub runs : InForce → Running → List ℕ → List Running
+runs f k [] = []
+runs f k (raw ∷ raws) = ran_to f k raw ∷ runs f (ran_to f k raw) raws
+
+-- and the shaft
+unfoldable pub shafts : InForce → Shaft → List ℕ → List Shaft
+shafts f k [] = []
+shafts f k (raw ∷ raws) = moved_to f k raw ∷ shafts f (moved_to f k raw) raws

@@ -1,9 +1,8 @@
-// The shaft: the unshifted position, the rest and the last reading, and how readings move it (document 01, "The axis", rules 1 to 5 and 7; document 02,
-// request 5). Only this crate knows how moves become units.
+// The shaft: its place and its last reading, and how readings move it (document 01, "The axis", rules 1 to 5 and 7). Only this crate knows how
+// the place is kept, and only this crate turns places into positions.
+mod place;
 mod raw;
 mod running;
-mod start;
-mod units;
 
 ghost use Rattle.integer.specs.Base.{◌≡◌};
 ghost use Rattle.encoder.specs.{rules_fit};
@@ -12,17 +11,14 @@ ghost use Rattle.axis_shaft.specs.{inside, begun, approached, moved, moved_by, r
 use encoder::effect::InForce;
 use encoder::quantity::{Steps, Units};
 use encoder::refusal;
-use raw::{approach, refusal_among};
+use place::period;
+use raw::{approach, oriented, refusal_among};
 use ring::between;
-use start::started;
-use units::TURNS;
 
 #[derive(Drop)]
 pub struct Shaft {
-    // the unshifted position, below L
-    pub units: Units,
-    // what the division left, below R: R of it are one more unit
-    pub rest: u32,
+    // the place of document 01, below R x L
+    pub place: Steps,
     // the raw number of the last reading
     pub last: Steps,
 }
@@ -55,8 +51,7 @@ pub enum Reported {
 impl Shaft {
     // Before a first reading. Such a shaft is outside its limits, whatever is in force.
     pub const NOWHERE: Shaft = Shaft {
-        units: Units(0),
-        rest: 0,
+        place: Steps(0),
         last: Steps(0xffff_ffff_ffff_ffff),
     };
 
@@ -71,7 +66,9 @@ impl Shaft {
         if rules.capacity.0 <= last.0 {
             return Moved::Refused(refusal::TURN);
         }
-        Moved::To(started(rules, last))
+        let first = oriented(rules, last);
+        let place = Steps(first.0 % period(rules));
+        Moved::To(Shaft { place, last })
     }
 
     // The shaft is within its limits.
@@ -81,9 +78,7 @@ impl Shaft {
         if !sound(rules) {
             return false;
         }
-        (self.units.0 < rules.span.0)
-            & ((self.rest as u64) < rules.steps.0)
-            & (self.last.0 < rules.capacity.0)
+        (self.place.0 < period(rules)) & (self.last.0 < rules.capacity.0)
     }
 
     // The move of a new reading: the shorter way from the last one.
@@ -101,7 +96,7 @@ impl Shaft {
         ensures { result ≡ moved rules self raw }
     {
         match self.approach(rules, raw) {
-            Approach::By(d) => Moved::To(self.advanced(rules, TURNS, raw, d)),
+            Approach::By(d) => Moved::To(self.advanced(rules, raw, d)),
             Approach::Refused(n) => Moved::Refused(n),
         }
     }
@@ -112,7 +107,7 @@ impl Shaft {
     {
         match self.approach(rules, raw) {
             Approach::By(d) => {
-                let shaft = self.advanced(rules, TURNS, raw, d);
+                let shaft = self.advanced(rules, raw, d);
                 MovedBy::To { shaft, d }
             }
             Approach::Refused(n) => MovedBy::Refused(n),
@@ -126,10 +121,9 @@ impl Shaft {
         if !self.inside(rules) {
             return Reported::Refused(refusal::NO_AXIS);
         }
-        let unshifted = self.units;
         Reported::At {
             position: Units(self.position(rules, offset)),
-            unshifted,
+            unshifted: self.units(rules),
         }
     }
 

@@ -54,7 +54,7 @@ fn measured(axis: Axis, rules: InForce, step: Steps, turn: Turns, elapsed: u16) 
     }
 }
 
-// Moves the shaft to a new reading, elapsed milliseconds after the last. The move is worked out once, for the shaft and the velocity.
+// Moves the shaft to a new reading, elapsed milliseconds after the last. The move is worked out once, for place and velocity.
 pub fn moved_at(shaft: Shaft, rules: InForce, raw: u32, elapsed: u16) -> MovedAt
     ensures { result ≡ moved_at rules shaft raw elapsed }
 {

@@ -4,7 +4,7 @@ use Rattle.integer.specs.Base.{◌≡◌, refl, List, [], ◌∷◌, ℕ, arith,
 use Rattle.integer.specs.{◌modulo◌}
 use Rattle.ring.specs.{in_range}
 use Rattle.encoder.specs.{plate_refusal, fields_refusal, refusal_on, rules_of, rules_fit}
-use Rattle.axis_shaft.specs.{inside, oriented, started}
+use Rattle.axis_shaft.specs.{inside, oriented, started, unshifted}
 use Rattle.axis_offset.specs.{value_refusal}
 use Rattle.axis.specs.{rules_on, acceptable, axis_refusal, unshifted_of, reported, start_raw_refusal, start_raw, preset_refusal, asked, presetted, preset as preset_on}
 use Rattle.accuracy.specs.{opened, listing}
@@ -33,7 +33,7 @@ module _ (p : Program) where
 
 -- what is printed, computed
 prints : (always0.answer (ready always0) read28 ≡ At 0) × (ignores_presets.answer (standing ignores_presets) preset0 ≡ At 1)
-unfolding form axis sequence scale read preset past ends digit_of digits number labelled last reply set_up read_by preset_by unstarted after position_answer refusal_on plate_refusal fields_refusal start_raw_refusal start_raw value_refusal in_range rules_of rules_fit inside oriented started rules_on acceptable axis_refusal unshifted_of reported preset_refusal asked presetted preset_on ◌modulo◌
+unfolding form axis sequence scale read preset past ends digit_of digits number labelled last reply set_up read_by preset_by unstarted after position_answer refusal_on plate_refusal fields_refusal start_raw_refusal start_raw value_refusal in_range rules_of rules_fit inside oriented started unshifted rules_on acceptable axis_refusal unshifted_of reported preset_refusal asked presetted preset_on ◌modulo◌
 prints = (refl, refl)
 
 -- ---- refuses every line: (read 28) is due a position

@@ -6,6 +6,6 @@ use Rattle.axis.specs.{Axis, read_raw}
 unfoldable pub faulty_at : Axis → ℕ → Bool
 faulty_at a raw = not (eqb (read_raw a raw).refusal 0)
 
--- and the axis stays as it is; otherwise it has moved
+-- and the axis keeps its place; otherwise it has moved
 unfoldable pub taken_at : Axis → ℕ → Axis
 taken_at a raw = (read_raw a raw).axis

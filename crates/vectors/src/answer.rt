@@ -107,7 +107,7 @@ fn lent(buffer: &[u8]) {
     line(b"");
 }
 
-// The axis that a call leaves: positions, rest, offset, presets; or the number of the refusal.
+// The axis that a call leaves: positions, offset, presets; or the number of the refusal.
 pub(crate) fn next(answer: Next) {
     if answer.refusal != 0 {
         refused(answer.refusal);
@@ -130,9 +130,6 @@ pub(crate) fn next(answer: Next) {
 }
 
 fn settings(axis: Axis) {
-    let shaft = axis.shaft;
-    text(b" rest ");
-    decimal(shaft.rest as u64);
     text(b" offset ");
     signed(axis.offset);
     text(b" preset ");

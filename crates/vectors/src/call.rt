@@ -68,17 +68,15 @@ fn fresh(nameplate: Nameplate, parameters: Parameters) -> Axis {
     }
 }
 
-// `given`: units, rest, last reading, offset, last preset and held preset value, whatever they are.
+// `given`: place, last reading, offset, last preset and held preset value, whatever they are.
 fn given(axis: Axis, line: &[u8]) -> Axis {
-    let units = long(line, 8);
-    let rest = long(line, units.next);
-    let last = long(line, rest.next);
+    let place = long(line, 8);
+    let last = long(line, place.next);
     let offset = signed(line, last.next);
     let preset = signed(line, offset.next);
     let stored = signed(line, preset.next);
     let shaft = Shaft {
-        units: Units(capped(units.value)),
-        rest: capped(rest.value),
+        place: Steps(place.value),
         last: Steps(last.value),
     };
     let mut record = axis;
@@ -87,15 +85,6 @@ fn given(axis: Axis, line: &[u8]) -> Axis {
     record.preset = preset.value;
     record.stored = stored.value;
     record
-}
-
-// A number of 32 bits. A larger one, which no record can hold, becomes the largest: that is past every limit too.
-fn capped(n: u64) -> u32 {
-    if n < 0x1_0000_0000 {
-        n as u32
-    } else {
-        0xffff_ffff
-    }
 }
 
 // `serial`: the software version and the serial of the nameplate, in twelve octets.

@@ -58,5 +58,5 @@ fn parameters(a: Parameters, b: Parameters) -> bool {
 }
 
 fn shafts(a: Shaft, b: Shaft) -> bool {
-    (a.units.0 == b.units.0) & (a.rest == b.rest) & (a.last.0 == b.last.0)
+    (a.place.0 == b.place.0) & (a.last.0 == b.last.0)
 }

@@ -1,5 +1,4 @@
-use Rattle.axis_shaft.proofs.{MoveLaws.advances, SensorLaws.needs, Shaft.advanced.Statement.statement, Shaft.advanced.Tie.close, Shaft.advanced.Tie.spec}
+use Rattle.axis_shaft.proofs.{PlaceLaws.places, SensorLaws.needs, Shaft.advanced.Statement.statement, Shaft.advanced.Tie.close, Shaft.advanced.Tie.spec}
 
 pub advanced-spec : {M : Type 1} → statement M
-advanced-spec = close (spec
-    (λ c κs. search (needs, advances)) (λ c κs. search (needs, advances)) (λ c κs. search (needs, advances)) (λ c. search (needs, advances)))
+advanced-spec = close (spec (λ c κs. search needs) (λ c κs. search needs) (λ c. search (needs, places)))

@@ -2,4 +2,4 @@ use Rattle.axis_shaft.proofs.{ShareLaws.leads, SensorLaws.needs, running.lead_of
 
 pub lead-of-spec : {M : Type 1} → statement M
 lead-of-spec = close (spec
-    (λ c. search needs) (λ c. search (needs, leads)) (λ c. search (needs, leads)))
+    (λ c. search needs) (λ c. search (needs, leads)) (λ c. search needs) (λ c. search needs) (λ c. search (needs, leads)) (λ c. search (needs, leads)) (λ c. search needs) (λ c. search (needs, leads)) (λ c. search (needs, leads)) (λ c. search (needs, leads)) (λ c. search (needs, leads)) (λ c. search (needs, leads)))

@@ -1,4 +1,0 @@
-pub mod Place
-pub mod Tied
-pub mod StepForStep
-pub mod NoPlace

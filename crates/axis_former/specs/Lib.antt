@@ -1,2 +1,0 @@
-pub mod Former
-pub mod SameAnswers
