@@ -1,5 +1,7 @@
 // The axis: a nameplate, its parameters, the shaft, and the offset by which presets shift the position (document 01, "The axis"). A call yields
 // the next axis and 0, or the same axis and the number of the refusal.
+#![tactic(auto)]
+
 mod position;
 mod preset;
 mod reading;

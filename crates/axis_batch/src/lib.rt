@@ -1,4 +1,6 @@
 // A batch, document 01's pass: raw numbers read one after the other, with the position at each ("The axis", rule 7).
+#![tactic(auto)]
+
 ghost use Rattle.integer.specs.Base.{◌≡◌};
 ghost use Rattle.axis_batch.specs.{batch, batch_list};
 

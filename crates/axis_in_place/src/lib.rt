@@ -1,5 +1,7 @@
 // The reading that moves the record itself (document 01, "The axis", its last paragraph). The loop of a board holds one axis record and lends it
 // to each reading.
+#![tactic(auto)]
+
 ghost use Rattle.integer.specs.Base.{◌≡◌};
 ghost use Rattle.axis.specs.{read};
 

@@ -1,4 +1,6 @@
 // Presets on numbers alone: which values are refused, and the new offset (document 01, "The axis", rule 6; rows 11 and 12).
+#![tactic(auto)]
+
 ghost use Rattle.integer.specs.Base.{◌≡◌};
 ghost use Rattle.axis_offset.specs.{value_refusal, offset_by};
 

@@ -1,5 +1,7 @@
 // The shaft: its place and its last reading, and how readings move it (document 01, "The axis", rules 1 to 5 and 7). Only this crate knows how
 // the place is kept, and only this crate turns places into positions.
+#![tactic(auto)]
+
 mod place;
 mod raw;
 mod running;

@@ -1,4 +1,6 @@
 // How fast the shaft runs, from a new reading and the time since the last one (document 01, "Velocity").
+#![tactic(auto)]
+
 ghost use Rattle.integer.specs.Base.{◌≡◌, ◌<◌, ◌≤◌, ◌^◌, nat_abs};
 ghost use Rattle.integer.specs.{clamp};
 ghost use Rattle.encoder.specs.{Sound};

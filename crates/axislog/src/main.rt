@@ -1,4 +1,6 @@
 // axislog: a log on standard input, its answers on standard output (document 01, "The program axislog").
+#![tactic(auto)]
+
 ghost use Rattle.axislog.specs.{Within};
 
 use axislog_core::{OUTPUT, Outcome, answer};

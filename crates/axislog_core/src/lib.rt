@@ -1,4 +1,6 @@
 // What axislog answers to a log (document 01, "The program axislog").
+#![tactic(auto)]
+
 ghost use Rattle.integer.specs.Base.{◌≡◌, ◌++◌, ◌+◌, ◌≤◌, length, take};
 ghost use Rattle.integer.specs.{over};
 ghost use Rattle.axislog_answers.specs.{text};

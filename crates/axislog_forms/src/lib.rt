@@ -1,4 +1,6 @@
 // A line of an axis log, read as a form (document 01, "The program axislog"). Positions in a line are counted from 0.
+#![tactic(auto)]
+
 ghost use Rattle.integer.specs.Base.{◌≡◌};
 ghost use Rattle.axislog_forms.specs.{form, read, preset, axis, sequence, scale};
 

@@ -1,4 +1,6 @@
 // The axis of a log, and what a form does to it (document 01, "The program axislog").
+#![tactic(auto)]
+
 ghost use Rattle.integer.specs.Base.{◌≡◌};
 ghost use Rattle.axislog_state.specs.{empty, unstarted, parameters_of, position_answer, refused, after, set_up, read, preset, reply};
 

@@ -1,4 +1,6 @@
 // The cyclic exchange with the control (document 01, "One cycle"): an axis runs the cycle of the class that its parameters came from.
+#![tactic(auto)]
+
 mod class4;
 mod standing;
 pub mod telegram83;

@@ -1,4 +1,6 @@
 // The link record, and what a cycle of each class makes of it and of what the control sends (document 01, "One cycle"). The axis has no part in it.
+#![tactic(auto)]
+
 mod class2;
 pub mod class4;
 mod limits;

@@ -1,6 +1,8 @@
 // The library for other languages: a batch from its start on, and the readers of both classes, on numbers and lent lists. Each function
 // answers 0, or the number of the refusal, and then leaves the lent list as it was. `c/encoder.h` declares them for C. The plate has R, T and
 // ident: its other fields have no part in these calls.
+#![tactic(auto)]
+
 mod run;
 mod take;
 

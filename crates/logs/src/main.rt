@@ -1,5 +1,7 @@
 // Runs axislog's core on stored logs: the arguments name them, and the answers to each stand under its name. Then it lends buffers of a wrong
 // length, also for a log that is too long.
+#![tactic(auto)]
+
 use axislog_core::{OUTPUT, Outcome, answer};
 use libc::STDOUT_FILENO;
 

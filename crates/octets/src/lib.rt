@@ -1,4 +1,6 @@
 // Octets and bits: one reader and one writer of numbers, the most significant octet first, and one test of a bit.
+#![tactic(auto)]
+
 ghost use Rattle.integer.specs.Base.{◌≡◌, ◌%◌, ◌^◌, length};
 ghost use Rattle.integer.specs.{big_endian, octets, bit};
 

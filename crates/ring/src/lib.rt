@@ -1,4 +1,6 @@
 // Counting around a ring of n places, 0 to n - 1.
+#![tactic(auto)]
+
 ghost use Rattle.integer.specs.Base.{◌≡◌, cond, ◌-◌, ◌<◌, ◌≤◌, ◌%◌, pos, nat_abs, ◌+ℤ◌, lt_z};
 ghost use Rattle.ring.specs.{on_ring, in_range, complement};
 

@@ -1,4 +1,6 @@
 // A reading of the sensor and its raw number (document 01, "Plate and reading").
+#![tactic(auto)]
+
 ghost use Rattle.integer.specs.Base.{◌≡◌};
 ghost use Rattle.sensor.specs.{step_refusal, numbered};
 

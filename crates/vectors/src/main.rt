@@ -1,5 +1,7 @@
 // Runs the worked values of the papers, and values that were calculated independently. The file stdin has one vector a line; the file stdout has
 // the same lines, each with its expected answer.
+#![tactic(auto)]
+
 mod answer;
 mod bench;
 mod call;
