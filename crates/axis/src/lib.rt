@@ -16,7 +16,7 @@ use encoder::parameters::Parameters;
 use encoder::refusal;
 use ring::between;
 
-#[derive(Drop)]
+#[derive(Clone, Copy)]
 pub struct Axis {
     pub nameplate: Nameplate,
     pub parameters: Parameters,
@@ -30,7 +30,7 @@ pub struct Axis {
     pub stored: i64,
 }
 
-#[derive(Drop)]
+#[derive(Clone, Copy)]
 pub struct Next {
     pub axis: Axis,
     // 0 where the call was taken

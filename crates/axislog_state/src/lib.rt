@@ -13,7 +13,7 @@ use encoder::parameters::Parameters;
 use encoder::quantity::Units;
 use encoder::refusal;
 
-#[derive(Drop)]
+#[derive(Clone, Copy)]
 pub enum Stage {
     // no axis form was accepted yet
     NoAxis,
@@ -23,13 +23,13 @@ pub enum Stage {
 }
 
 // Before its first reading an axis has a nameplate and parameters only.
-#[derive(Drop)]
+#[derive(Clone, Copy)]
 pub struct State {
     pub stage: Stage,
     pub axis: Axis,
 }
 
-#[derive(Drop)]
+#[derive(Clone, Copy)]
 pub struct Reply {
     pub state: State,
     pub answer: Answer,

@@ -6,7 +6,7 @@ use crate::quantity::{Steps, Turns};
 use crate::refusal;
 use crate::refusal::{first, when};
 
-#[derive(Drop)]
+#[derive(Clone, Copy)]
 pub struct Nameplate {
     // R, per turn
     pub steps: Steps,

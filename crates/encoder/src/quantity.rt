@@ -1,13 +1,13 @@
 // Physical steps, measuring units and turns are counted apart: no sum takes two of them.
 
 // Steps of the sensor.
-#[derive(Drop)]
+#[derive(Clone, Copy)]
 pub struct Steps(pub u64);
 
 // Measuring units, as the control sees them.
-#[derive(Drop)]
+#[derive(Clone, Copy)]
 pub struct Units(pub u32);
 
 // Turns of the shaft.
-#[derive(Drop)]
+#[derive(Clone, Copy)]
 pub struct Turns(pub u32);

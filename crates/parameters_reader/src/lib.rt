@@ -12,7 +12,7 @@ use encoder::refusal;
 use encoder::refusal::{first, when};
 use octets::number;
 
-#[derive(Drop)]
+#[derive(Clone, Copy)]
 pub enum Received {
     Taken(Parameters),
     Refused(u8),

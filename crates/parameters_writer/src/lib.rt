@@ -9,7 +9,7 @@ use encoder::parameters::Parameters;
 use encoder::quantity::Units;
 use octets::put_number;
 
-#[derive(Drop)]
+#[derive(Clone, Copy)]
 pub enum Written {
     Done,
     Refused(u8),
