@@ -1,6 +1,6 @@
 -- THE THEOREM (document 01, "The distance rule", demand 3): the claim of specs/Claim.antt holds of the library. By induction on the calls: the start
 -- matches the opened ledger, and each call keeps the match.
-use Rattle.integer.specs.Base.{◌≡◌, List, [], ◌∷◌, ℕ, ◌<◌, leb, ℤ}
+use Rattle.std.specs.Prelude.{◌≡◌, List, [], ◌∷◌, ℕ, ◌<◌, leb, ℤ}
 use Rattle.encoder.specs.{capacity_of, wrong_turn, when, refusal_on}
 use Rattle.encoder.proofs.{before-none}
 use Rattle.sensor.specs.{step_refusal}

@@ -1,6 +1,8 @@
 -- A cycle beside a ledger. A faulty cycle moves nothing and makes no preset. Any other accepts the raw number and then makes the preset, if the ledger
 -- says that one is made. What the ledger says is due after it, the link says too.
-use Rattle.integer.specs.Base.{◌≡◌, refl, Bool, true, false, cond, not, ◌&&◌, and-true, List, ℕ, zero, suc, arith, ℤ, ◌+ℤ◌, ne_eqb}
+use Rattle.std.specs.Prelude.{◌≡◌, refl, Bool, true, false, cond, not, ◌&&◌, List, ℕ, zero, suc, ℤ, ◌+ℤ◌}
+use Rattle.std.proofs.Common.{arith, ne_eqb}
+use Rattle.std.proofs.Math.Bool.{and-true}
 use Rattle.axis_shaft.specs.{move_refusal, moved_to}
 use Rattle.axis.specs.{rules_on, position_of, at_raw, presetted}
 use Rattle.axis.proofs.{Limits, singly, reported-is, raw-kept}

@@ -1,5 +1,6 @@
 -- The positions in a cycle's input, read back out of the octets, are the axis' own: they are below 2^32, so that four octets hold them.
-use Rattle.integer.specs.Base.{◌≡◌, true, false, List, ◌++◌, ℕ, ◌^◌, ◌<◌, arith, ℤ}
+use Rattle.std.specs.Prelude.{◌≡◌, true, false, List, ◌++◌, ℕ, ◌^◌, ◌<◌, ℤ}
+use Rattle.std.proofs.Common.{arith}
 use Rattle.integer.specs.{part, big_endian, octets}
 use Rattle.integer.proofs.{modulo-lt, big_endian-octets}
 use Rattle.axis_shaft.specs.{position_at}

@@ -1,6 +1,7 @@
 -- The invariant of an axis beside its ledger: the ledger's p is the origin of phase, offset and true travel. So the position agrees with the ledger.
 -- Start, accepted reading and preset keep it.
-use Rattle.integer.specs.Base.{◌≡◌, ◌∙◌, ℕ, ◌*◌, ◌%◌, ◌<◌, ℤ, pos, ◌+ℤ◌, ◌-ℤ◌}
+use Rattle.std.specs.Prelude.{◌≡◌, ℕ, ◌*◌, ◌%◌, ◌<◌, ℤ, pos, ◌+ℤ◌, ◌-ℤ◌}
+use Rattle.std.proofs.Common.{◌∙◌}
 use Rattle.phase.specs.{origin}
 use Rattle.phase.proofs.{place-units, place-start, place-move}
 use Rattle.encoder.specs.{InForce, Sound}

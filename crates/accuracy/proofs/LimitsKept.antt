@@ -1,6 +1,7 @@
 -- Every call on an acceptable axis leaves an acceptable one, and the link stays within its limits on it (request 3). So 16 never comes of records of our own
 -- making: a start gives the first ones, with a link of zeros.
-use Rattle.integer.specs.Base.{◌≡◌, refl, ◌∙◌, true, List, [], ◌∷◌, ℕ, zero, suc}
+use Rattle.std.specs.Prelude.{◌≡◌, refl, true, List, [], ◌∷◌, ℕ, zero, suc}
+use Rattle.std.proofs.Common.{◌∙◌}
 use Rattle.sensor.specs.{raw_of}
 use Rattle.axis.specs.{Axis, acceptable, next, at_raw, read_raw_refusal, read_raw, read_refusal, read, preset_refusal, presetted, preset, holding, store}
 use Rattle.axis.proofs.{Limits, limits_of, accepts, raw-kept, read_kept, preset-kept, store_kept}

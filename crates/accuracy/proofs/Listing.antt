@@ -1,5 +1,5 @@
 -- What the claim says of a program on the listing's axis, first at step 8 of turn 2, which is raw number 28: of its first call, and of another after it.
-use Rattle.integer.specs.Base.{◌≡◌, refl, [], ◌∷◌, ℕ, ℤ}
+use Rattle.std.specs.Prelude.{◌≡◌, refl, [], ◌∷◌, ℕ, ℤ}
 use Rattle.encoder.specs.{plate_refusal, fields_refusal, refusal_on}
 use Rattle.sensor.specs.{step_refusal}
 use Rattle.axis_shaft.specs.{Reported}

@@ -1,6 +1,7 @@
 -- What `Agrees` says, in natural numbers. Two positions that agree with one ledger are at most one unit apart around the total range, so that the claim
 -- pins a position down.
-use Rattle.integer.specs.Base.{ap, ℕ, ◌+◌, ◌*◌, ◌<◌, arith, ℤ, pos, nat_abs, ◌-ℤ◌, ◌*ℤ◌}
+use Rattle.std.specs.Prelude.{ℕ, ◌+◌, ◌*◌, ◌<◌, ℤ, pos, nat_abs, ◌-ℤ◌, ◌*ℤ◌}
+use Rattle.std.proofs.Common.{ap, arith}
 use Rattle.integer.proofs.{above, below, signed, apart, neg_is, diff_is, mul_is, abs_is}
 use Rattle.phase.proofs.{off-is}
 use Rattle.accuracy.specs.{Device, force, Ledger.Ledger, Agrees}

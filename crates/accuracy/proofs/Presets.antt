@@ -1,5 +1,5 @@
 -- A preset beside a ledger: the position is the one that rule 6 gives, and the ledger then counts from it.
-use Rattle.integer.specs.Base.{refl, Bool, true, false, ℕ, ℤ}
+use Rattle.std.specs.Prelude.{refl, Bool, true, false, ℕ, ℤ}
 use Rattle.axis.specs.{rules_on, unshifted_of, position_of, asked, presetted}
 use Rattle.axis.proofs.{Limits, asked-lt, put_is}
 use Rattle.accuracy.specs.{made, put, Rule6, State}

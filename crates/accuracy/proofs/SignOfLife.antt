@@ -1,7 +1,8 @@
 -- The claim sees the master's sign of life (request 3): a program that is ours but forgets it breaks the claim at its second cycle. The first brings 1, which is
 -- the start; the second brings 5 where 2 is expected, and a rise of bit 12. The counter reaches its stop, so 0F02h is held and no preset is made: exact is 8.4,
 -- which on the ring of 7 is 1.4, and not 0.
-use Rattle.integer.specs.Base.{◌≡◌, refl, [], ◌∷◌, arith, pos}
+use Rattle.std.specs.Prelude.{◌≡◌, refl, [], ◌∷◌, pos}
+use Rattle.std.proofs.Common.{arith}
 use Rattle.integer.specs.{◌modulo◌, big_endian}
 use Rattle.ring.specs.{in_range}
 use Rattle.encoder.specs.{plate_refusal, fields_refusal, refusal_on, rules_of, rules_fit}

@@ -1,6 +1,6 @@
 -- A state of the library beside a ledger. The state holds the device and all of the ledger but p and g, so that what is kept is one equation. Accepted
 -- raw numbers keep it, one or many.
-use Rattle.integer.specs.Base.{◌≡◌, refl, List, [], ◌∷◌, ℕ, suc, ℤ, ◌+ℤ◌}
+use Rattle.std.specs.Prelude.{◌≡◌, refl, List, [], ◌∷◌, ℕ, suc, ℤ, ◌+ℤ◌}
 use Rattle.encoder.proofs.{before-none}
 use Rattle.axis_shaft.specs.{move_refusal, moved_to, refusal_in}
 use Rattle.axis.specs.{Axis, rules_on, position_of, reported, at_raw}

@@ -1,6 +1,7 @@
 -- One call beside a ledger: the state after it matches the ledger after it, a preset puts the position where rule 6 says, and each position in a lent
 -- buffer agrees with the ledger at its own moment. One case for each kind of call.
-use Rattle.integer.specs.Base.{◌≡◌, refl, not, List, [], ◌++◌, append-nil, ℕ, zero, suc, eqb, ℤ, length}
+use Rattle.std.specs.Prelude.{◌≡◌, refl, not, List, [], ◌++◌, ℕ, zero, suc, eqb, ℤ, length}
+use Rattle.std.proofs.Common.{append-nil}
 use Rattle.encoder.specs.{wrong_buffer, when, answer}
 use Rattle.encoder.proofs.{before-none}
 use Rattle.sensor.specs.{raw_of}

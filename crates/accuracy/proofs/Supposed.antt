@@ -1,6 +1,7 @@
 -- What is supposed of the true steps says just this: they are the d of rule 3. So an accepted reading moves the axis by the true steps; and what is
 -- supposed can be met, for every raw number that is accepted.
-use Rattle.integer.specs.Base.{◌≡◌, ap, List, [], ◌∷◌, ℕ, zero, suc, ◌+◌, ◌*◌, ℤ, pos, ◌-ℤ◌, ◌*ℤ◌}
+use Rattle.std.specs.Prelude.{◌≡◌, List, [], ◌∷◌, ℕ, zero, suc, ◌+◌, ◌*◌, ℤ, pos, ◌-ℤ◌, ◌*ℤ◌}
+use Rattle.std.proofs.Common.{ap}
 use Rattle.integer.proofs.{above, below, signed, add_is, diff_is, mul_is, of_eq, modulo-has, modulo-alike}
 use Rattle.encoder.specs.{Sound}
 use Rattle.encoder.proofs.{before-none}

@@ -1,6 +1,7 @@
 -- The claim sees the octets of telegram 83: a program that is ours but for their order breaks it at its first such cycle. G1_XIST1 would then be read
 -- out of the status words 0200h 2000h, which on the ring of 7 are 4; exact is 8.4, which is 1.4.
-use Rattle.integer.specs.Base.{◌≡◌, refl, [], ◌∷◌, ◌++◌, arith, pos}
+use Rattle.std.specs.Prelude.{◌≡◌, refl, [], ◌∷◌, ◌++◌, pos}
+use Rattle.std.proofs.Common.{arith}
 use Rattle.integer.specs.{◌modulo◌, clamp, big_endian, octets}
 use Rattle.ring.specs.{in_range, complement}
 use Rattle.encoder.specs.{plate_refusal, fields_refusal, refusal_on, rules_of, rules_fit}

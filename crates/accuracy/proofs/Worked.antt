@@ -1,5 +1,5 @@
 -- The definitions give what was worked out by hand: computed.
-use Rattle.integer.specs.Base.{◌≡◌, refl}
+use Rattle.std.specs.Prelude.{◌≡◌, refl}
 use Rattle.integer.specs.{◌modulo◌, clamp, big_endian, octets}
 use Rattle.ring.specs.{in_range, complement}
 use Rattle.encoder.specs.{plate_refusal, fields_refusal, refusal_on, rules_of, rules_fit}

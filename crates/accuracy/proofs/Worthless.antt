@@ -1,6 +1,7 @@
 -- Worthless programs break the claim, each on the listing's axis and within two calls: the reported position is a unit or more from the exact one, or a
 -- preset does not put the position where rule 6 says.
-use Rattle.integer.specs.Base.{◌≡◌, refl, true, false, [], ◌∷◌, ℕ, ◌*◌, ◌<◌, arith, ℤ, pos, nat_abs}
+use Rattle.std.specs.Prelude.{◌≡◌, refl, true, false, [], ◌∷◌, ℕ, ◌*◌, ◌<◌, ℤ, pos, nat_abs}
+use Rattle.std.proofs.Common.{arith}
 use Rattle.integer.specs.{◌modulo◌, big_endian, octets}
 use Rattle.integer.proofs.{apart, abs_is}
 use Rattle.ring.specs.{in_range}

@@ -1,5 +1,5 @@
 -- The start and the calls on an axis as data: each kind with its own arguments and lent buffers, whatever their lengths and contents.
-use Rattle.integer.specs.Base.{Bool, List, ℕ, ℤ}
+use Rattle.std.specs.Prelude.{Bool, List, ℕ, ℤ}
 
 -- a start is by the step and the turn of a first reading, or by its raw number
 pub data First : Type 0 where

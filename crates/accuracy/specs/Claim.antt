@@ -17,7 +17,7 @@
 -- that a preset is due. One that forgets the master's sign of life makes a preset while 0F02h should be held. A program that copies the first position of a batch on breaks the claim at the second entry, one that scales the raw number afresh
 -- breaks it when the sensor begins again, and one that adds rounded moves when the parts cut off come to a unit. Worthless.antt in proofs/ refutes each of
 -- these, and Accuracy.antt proves the claim of ours.
-use Rattle.integer.specs.Base.{◌≡◌, true, false, List, [], ◌∷◌, ℕ, suc, ◌*◌, ◌<◌, ℤ, pos, neg_ℤ, nat_abs, ◌+ℤ◌, ◌-ℤ◌, ◌*ℤ◌, ◌<ℤ◌}
+use Rattle.std.specs.Prelude.{◌≡◌, true, false, List, [], ◌∷◌, ℕ, suc, ◌*◌, ◌<◌, ℤ, pos, neg_ℤ, nat_abs, ◌+ℤ◌, ◌-ℤ◌, ◌*ℤ◌, ◌<ℤ◌}
 use Rattle.integer.specs.{bit, ◌modulo◌, part, big_endian}
 use Rattle.encoder.specs.{Nameplate, Parameters, fields_of}
 use Rattle.axis_shaft.specs.{oriented, Reported, At, declared.Reported.TheVariants.Refused}

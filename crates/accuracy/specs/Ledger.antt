@@ -1,7 +1,7 @@
 -- The ledger (document 01, "The distance rule", its second paragraph). It is fed the arguments of the calls, the true steps m beside each
 -- accepted raw number, and one answer, the position just after a preset. By the table of refusals and the rules it settles what is accepted and whether a
 -- preset is made: it keeps the last accepted raw number, the held preset value and the link state itself, and never looks at an axis record.
-use Rattle.integer.specs.Base.{Bool, true, false, cond, not, ◌&&◌, ◌||◌, List, [], ◌∷◌, ℕ, suc, eqb, ltb, ℤ, pos, ◌+ℤ◌, length}
+use Rattle.std.specs.Prelude.{Bool, true, false, cond, not, ◌&&◌, ◌||◌, List, [], ◌∷◌, ℕ, suc, eqb, ltb, ℤ, pos, ◌+ℤ◌, length}
 use Rattle.encoder.specs.{Nameplate, Parameters, InForce, wrong_buffer, when, ◌before◌, answer, fields_of, rules_of}
 use Rattle.sensor.specs.{raw_of, step_refusal}
 use Rattle.axis_shaft.specs.{oriented, move_refusal, refusal_in}

@@ -1,6 +1,6 @@
 -- What the library makes of the calls: the definitions that its contracts cite. The link record is all 0 at first, and each call gets axis and link as
 -- the call before has left them.
-use Rattle.integer.specs.Base.{List, [], ℕ}
+use Rattle.std.specs.Prelude.{List, [], ℕ}
 use Rattle.encoder.specs.{Nameplate, Parameters}
 use Rattle.axis.specs.{Axis, Next, reported, start, start_raw, read_raw, read, preset, store}
 use Rattle.axis_batch.specs.{batch, batch_list}

@@ -1,6 +1,6 @@
 -- Worked runs that the claim speaks of: calls of every kind, refused ones, wraps, presets and faults among them, for class 2, for class 4, for class 4
 -- under block bit 2, and for class 4 with a sign of life. Beside each call stands what was worked out from document 01 by hand: the position after it, p and g, and the lent list or octets.
-use Rattle.integer.specs.Base.{true, false, List, [], ◌∷◌, ◌++◌, ℕ, zero, suc, ℤ, pos, negsuc}
+use Rattle.std.specs.Prelude.{true, false, List, [], ◌∷◌, ◌++◌, ℕ, zero, suc, ℤ, pos, negsuc}
 use Rattle.encoder.specs.{plate, Class2, Class4}
 use Rattle.accuracy.specs.{Calls.first_reading, Calls.Call, Calls.reading, Calls.raw_reading, Calls.batching, Calls.presetting, Calls.storing, Calls.cycling, Calls.measuring}
 use Rattle.accuracy.specs.{Ledger.Device, Ledger.Ledger, Ledger.deed, Ledger.noted, Claim.Event, Claim.number, Run.State, Ours.ours}

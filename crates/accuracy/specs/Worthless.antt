@@ -1,6 +1,7 @@
 -- Programs that document 01 would send back ("Programs we would send back", "Traps on the bench"), each as ours but for one thing. Each breaks the
 -- claim: proofs/Worthless.antt, for the octets of telegram 83 proofs/Telegram83.antt, and for the sign of life proofs/SignOfLife.antt.
-use Rattle.integer.specs.Base.{Bool, false, cond, List, ◌++◌, ℕ, ◌*◌, ◌/◌, ◌%◌, eqb, pos, ◌+ℤ◌, ◌-ℤ◌, ◌*ℤ◌, length, get_or, take, drop, replicate, quot_z}
+use Rattle.std.specs.Prelude.{Bool, false, cond, List, ◌++◌, ℕ, ◌*◌, ◌/◌, ◌%◌, eqb, pos, ◌+ℤ◌, ◌-ℤ◌, ◌*ℤ◌, length, get_or, take, drop, replicate}
+use Rattle.std.specs.Int.Signed.{quot_z}
 use Rattle.integer.specs.{◌modulo◌}
 use Rattle.axis_shaft.specs.{oriented, move_of, Reported, At}
 use Rattle.axis.specs.{Axis, rules_on, unshifted_of, position_of, reported, with_shaft}

@@ -1,5 +1,8 @@
 -- The limits of a record, as a test and as facts. A record outside them gets 16 from every call.
-use Rattle.integer.specs.Base.{◌≡◌, sym, ◌∙◌, Bool, true, false, ◌&&◌, ℕ, ◌<◌, arith, nat_abs, lt-ltb, ltb-true, eq-eqb, ne_eqb, eqb-true, w64, SFits, to_z, of_z}
+use Rattle.std.specs.Prelude.{◌≡◌, Bool, true, false, ◌&&◌, ℕ, ◌<◌, nat_abs}
+use Rattle.std.proofs.Common.{sym, ◌∙◌, arith, lt-ltb, ltb-true, eq-eqb, ne_eqb, eqb-true}
+use Rattle.std.specs.Int.{w64}
+use mir.Val.{SFits, to_z, of_z}
 use Rattle.integer.proofs.{reads, fits-abs}
 use Rattle.ring.specs.{in_range}
 use Rattle.encoder.specs.{InForce, Effect, Taken, Refused, ◌before◌, answer, refusal_on, in_force}

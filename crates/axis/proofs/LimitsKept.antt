@@ -1,6 +1,7 @@
 -- A call on an axis within its limits yields an axis within its limits: each rule keeps within them what it changes. A started axis is within them,
 -- and the record of a refused start is not.
-use Rattle.integer.specs.Base.{◌≡◌, refl, Bool, true, false, not, ℕ, zero, suc, ◌<◌, arith, ltb, leb, ℤ, pos, nat_abs, ◌+ℤ◌, ◌-ℤ◌, ltb-true, leb-false}
+use Rattle.std.specs.Prelude.{◌≡◌, refl, Bool, true, false, not, ℕ, zero, suc, ◌<◌, ltb, leb, ℤ, pos, nat_abs, ◌+ℤ◌, ◌-ℤ◌}
+use Rattle.std.proofs.Common.{arith, ltb-true, leb-false}
 use Rattle.integer.proofs.{signed, apart, add_is, diff_is, abs_is, modulo-lt, modulo-is}
 use Rattle.ring.specs.{in_range}
 use Rattle.encoder.specs.{Nameplate, Parameters, wrong_turn, wrong_preset, class_off, when, ◌before◌, capacity_of, fields_of, refusal_on, rules_of}

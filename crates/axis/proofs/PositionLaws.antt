@@ -1,5 +1,8 @@
 -- The answer of `position`. An axis within its limits always has a position.
-use Rattle.integer.specs.Base.{◌≡◌, sym, ◌∙◌, ℕ, arith, w64, to_z, of_z}
+use Rattle.std.specs.Prelude.{◌≡◌, ℕ}
+use Rattle.std.proofs.Common.{sym, ◌∙◌, arith}
+use Rattle.std.specs.Int.{w64}
+use mir.Val.{to_z, of_z}
 use Rattle.integer.proofs.{reads}
 use Rattle.encoder.specs.{Units, InForce}
 use Rattle.axis_shaft.specs.{Reported, At, declared.Reported.TheVariants.Refused, reported_at}

@@ -1,6 +1,8 @@
 -- Start and reading: the first refusal in the table's order is the answer; else the axis is that of rules 2 to 4.
 pub use borrow.Author.Rules.{rules}
-use Rattle.integer.specs.Base.{◌≡◌, refl, sym, ◌∙◌, false, ℕ, zero, suc, leb, lt-leb}
+use Rattle.std.specs.Prelude.{◌≡◌, refl, false, ℕ, zero, suc, leb}
+use Rattle.std.proofs.Common.{sym, ◌∙◌}
+use Rattle.std.proofs.lemmas.Bool.{lt-leb}
 use Rattle.encoder.specs.{Nameplate, Parameters, InForce, Effect, Taken, Refused as NotInForce, wrong_turn, when, ◌before◌, answer, capacity_of, fields_of, refusal_on}
 use Rattle.encoder.specs.{rules_of, in_force}
 use Rattle.encoder.proofs.{refused-is, before-first, in-force-taken, in-force-refused, taken-sound}

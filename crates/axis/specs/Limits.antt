@@ -1,5 +1,5 @@
 -- The axis record, its limits, and the position that it stands at (document 01, "The axis", rules 4 and 5; row 16).
-use Rattle.integer.specs.Base.{◌≡◌, Bool, true, not, ◌&&◌, ℕ, ◌<◌, eqb, nat_abs}
+use Rattle.std.specs.Prelude.{◌≡◌, Bool, true, not, ◌&&◌, ℕ, ◌<◌, eqb, nat_abs}
 use Rattle.ring.specs.{in_range}
 use Rattle.encoder.specs.{InForce, Effect, Taken, Refused as NotInForce, no_axis, when, answer, fields_of, refusal_on, rules_of}
 use Rattle.axis_shaft.specs.{Reported, At, declared.Reported.TheVariants.Refused, inside, Inside, unshifted, position_at}

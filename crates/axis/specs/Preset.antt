@@ -1,5 +1,5 @@
 -- Presets, and the held preset value (document 01, "The axis", rule 6; "One cycle" on the held preset value).
-use Rattle.integer.specs.Base.{Bool, cond, ℕ, ℤ, pos, ◌+ℤ◌, ◌-ℤ◌}
+use Rattle.std.specs.Prelude.{Bool, cond, ℕ, ℤ, pos, ◌+ℤ◌, ◌-ℤ◌}
 use Rattle.integer.specs.{◌modulo◌}
 use Rattle.encoder.specs.{◌before◌}
 use Rattle.axis_offset.specs.{value_refusal}

@@ -1,5 +1,5 @@
 -- Start and reading: each yields the next axis, or the axis as it was beside the number of the refusal (document 01, "The axis", rules 2 and 3).
-use Rattle.integer.specs.Base.{ℕ, leb, pos}
+use Rattle.std.specs.Prelude.{ℕ, leb, pos}
 use Rattle.encoder.specs.{Nameplate, Parameters, wrong_turn, when, ◌before◌, answer, capacity_of, fields_of, refusal_on, rules_of}
 use Rattle.sensor.specs.{raw_of, step_refusal}
 use Rattle.axis_shaft.specs.{Shaft, Moved, To, declared.Moved.TheVariants.Refused as NotMoved, nowhere, started, shaft_refusal, moved_to}

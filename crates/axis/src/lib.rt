@@ -6,7 +6,7 @@ mod position;
 mod preset;
 mod reading;
 
-ghost use Rattle.integer.specs.Base.{◌≡◌};
+ghost use Rattle.std.specs.Prelude.{◌≡◌};
 ghost use Rattle.axis.specs.{in_force_on};
 
 use axis_shaft::Shaft;

@@ -1,5 +1,5 @@
 // The position of an axis, and the unshifted one (document 01, "The axis", rules 4 and 5).
-ghost use Rattle.integer.specs.Base.{◌≡◌};
+ghost use Rattle.std.specs.Prelude.{◌≡◌};
 ghost use Rattle.axis.specs.{reported};
 
 use crate::Axis;

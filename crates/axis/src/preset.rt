@@ -1,5 +1,5 @@
 // Presets, and the held preset value (document 01, "The axis", rule 6). The crate axis_offset refuses values and works out the offset.
-ghost use Rattle.integer.specs.Base.{◌≡◌};
+ghost use Rattle.std.specs.Prelude.{◌≡◌};
 ghost use Rattle.axis.specs.{Ready, preset, store};
 
 use crate::{Axis, Next};

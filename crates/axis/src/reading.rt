@@ -1,5 +1,5 @@
 // Start and reading (document 01, "The axis", rules 1 to 4). The crate axis_shaft moves the place.
-ghost use Rattle.integer.specs.Base.{◌≡◌};
+ghost use Rattle.std.specs.Prelude.{◌≡◌};
 ghost use Rattle.axis.specs.{refused, fresh, begun_by, start, start_raw, read_raw, read};
 
 use crate::{Axis, Next};

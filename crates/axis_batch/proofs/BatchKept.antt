@@ -1,5 +1,5 @@
 -- A batch keeps the limits: it is readings one after the other.
-use Rattle.integer.specs.Base.{List, [], ◌∷◌, ℕ}
+use Rattle.std.specs.Prelude.{List, [], ◌∷◌, ℕ}
 use Rattle.axis.specs.{Axis, read_raw}
 use Rattle.axis.proofs.{Limits, by_number, raw-kept}
 use Rattle.axis_batch.specs.{after, batch_refusal, batch}

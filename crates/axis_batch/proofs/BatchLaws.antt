@@ -1,6 +1,9 @@
 -- A batch of the axis is the batch of its shaft. By induction on the readings, each as if read singly.
 pub use borrow.Author.Rules.{rules}
-use Rattle.integer.specs.Base.{◌≡◌, refl, sym, ap, ◌∙◌, List, [], ◌∷◌, ℕ, zero, suc, not, eqb, length, lt-ltb, w64, to_z, of_z}
+use Rattle.std.specs.Prelude.{◌≡◌, refl, List, [], ◌∷◌, ℕ, zero, suc, not, eqb, length}
+use Rattle.std.proofs.Common.{sym, ap, ◌∙◌, lt-ltb}
+use Rattle.std.specs.Int.{w64}
+use mir.Val.{to_z, of_z}
 use Rattle.integer.proofs.{reads}
 use Rattle.ring.specs.{in_range}
 use Rattle.encoder.specs.{InForce, wrong_buffer, when, ◌before◌, answer}

@@ -1,5 +1,5 @@
 -- A batch, document 01's pass: each raw number as if read singly (rule 7).
-use Rattle.integer.specs.Base.{not, List, [], ◌∷◌, ℕ, eqb, length}
+use Rattle.std.specs.Prelude.{not, List, [], ◌∷◌, ℕ, eqb, length}
 use Rattle.encoder.specs.{wrong_buffer, when, ◌before◌, answer}
 use Rattle.axis.specs.{Axis, Next, axis_refusal, position_of, next, read_raw}
 

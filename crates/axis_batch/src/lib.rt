@@ -1,7 +1,7 @@
 // A batch, document 01's pass: raw numbers read one after the other, with the position at each ("The axis", rule 7).
 #![tactic(auto)]
 
-ghost use Rattle.integer.specs.Base.{◌≡◌};
+ghost use Rattle.std.specs.Prelude.{◌≡◌};
 ghost use Rattle.axis_batch.specs.{batch, batch_list};
 
 use axis::{Axis, Next};

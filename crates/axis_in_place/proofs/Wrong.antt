@@ -1,7 +1,8 @@
 -- Two wrong contracts of `read_in_place`, each refuted by the definition `read`, which the right one cites: that the record is left as it was, and
 -- that step and turn change places. One axis refutes both, that of document 01's listing: a reading of step 4 in turn 0 is taken and moves it, and
 -- step 0 in turn 4 is refused.
-use Rattle.integer.specs.Base.{◌≡◌, refl, ap, ℕ, arith}
+use Rattle.std.specs.Prelude.{◌≡◌, refl, ℕ}
+use Rattle.std.proofs.Common.{ap, arith}
 use Rattle.integer.specs.{◌modulo◌}
 use Rattle.ring.specs.{in_range}
 use Rattle.encoder.specs.{plate, Class2, plate_refusal, fields_refusal, refusal_on, rules_of, rules_fit}

@@ -2,7 +2,7 @@
 // to each reading.
 #![tactic(auto)]
 
-ghost use Rattle.integer.specs.Base.{◌≡◌};
+ghost use Rattle.std.specs.Prelude.{◌≡◌};
 ghost use Rattle.axis.specs.{read};
 
 use axis::Axis;

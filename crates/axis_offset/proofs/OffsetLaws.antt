@@ -1,6 +1,10 @@
 -- The refusal and the new offset. A place on a ring of 32 bits fits its word, and so does its difference to a number of 32 bits.
 pub use borrow.Author.Rules.{rules}
-use Rattle.integer.specs.Base.{◌≡◌, refl, ◌∙◌, Bool, true, false, not, ℕ, zero, suc, ◌≤◌, ◌<◌, ◌^◌, arith, ℤ, pos, ◌+ℤ◌, ◌-ℤ◌, +ℤ_idl, w64, w32, Fits, SFits, to_z, of_z}
+use Rattle.std.specs.Prelude.{◌≡◌, refl, Bool, true, false, not, ℕ, zero, suc, ◌≤◌, ◌<◌, ◌^◌, ℤ, pos, ◌+ℤ◌, ◌-ℤ◌}
+use Rattle.std.proofs.Common.{◌∙◌, arith}
+use Rattle.std.proofs.Math.IntN.{+ℤ_idl}
+use Rattle.std.specs.Int.{w64, w32}
+use mir.Val.{Fits, SFits, to_z, of_z}
 use Rattle.integer.proofs.{reads, fits-abs, diff-fits, diff-reads, modulo-lt}
 use Rattle.ring.specs.{on_ring, in_range}
 use Rattle.ring.proofs.{on-ring, on_none}

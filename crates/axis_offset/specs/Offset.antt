@@ -1,5 +1,5 @@
 -- Presets on numbers alone (document 01, "The axis", rule 6; rows 11 and 12).
-use Rattle.integer.specs.Base.{Bool, cond, not, ℕ, ℤ, pos, ◌+ℤ◌, ◌-ℤ◌}
+use Rattle.std.specs.Prelude.{Bool, cond, not, ℕ, ℤ, pos, ◌+ℤ◌, ◌-ℤ◌}
 use Rattle.ring.specs.{on_ring, in_range}
 use Rattle.encoder.specs.{InForce, wrong_preset, class_off, when, ◌before◌}
 

@@ -1,7 +1,7 @@
 // Presets on numbers alone: which values are refused, and the new offset (document 01, "The axis", rule 6; rows 11 and 12).
 #![tactic(auto)]
 
-ghost use Rattle.integer.specs.Base.{◌≡◌};
+ghost use Rattle.std.specs.Prelude.{◌≡◌};
 ghost use Rattle.axis_offset.specs.{value_refusal, offset_by};
 
 use encoder::effect::InForce;

@@ -1,5 +1,10 @@
 -- An integer counted ahead by a number as large as it is a natural number, in machine words too. So it is divided without a case for its sign.
-use Rattle.integer.specs.Base.{◌≡◌, ℕ, ◌+◌, ◌^◌, ◌≤◌, arith, T, ℤ, pos, nat_abs, ◌+ℤ◌, non_neg, w64, Fits, SFits, to_z, of_z, to_z_pos}
+use Rattle.std.specs.Prelude.{◌≡◌, ℕ, ◌+◌, ◌^◌, ◌≤◌, T, ℤ, pos, nat_abs, ◌+ℤ◌}
+use Rattle.std.proofs.Common.{arith}
+use Rattle.std.specs.Int.Signed.{non_neg}
+use Rattle.std.specs.Int.{w64}
+use mir.Val.{Fits, SFits, to_z, of_z}
+use Rattle.std.proofs.lemmas.Int.{to_z_pos}
 use Rattle.integer.proofs.{above, below, apart, add_is, reads, abs_is, fits-abs, to-nat}
 
 module _ (z : ℤ) (n : ℕ) (fits : SFits w64 z) (small : nat_abs z ≤ n) (most : n ≤ 2 ^ 61) where

@@ -1,8 +1,13 @@
 -- A batch before it writes: the look through all readings, the first refusal reading after reading, and the number of the refusal. At the i-th
 -- reading a walk keeps what the readings to come will give; at the end of the list nothing is left.
-use Rattle.integer.specs.Base.{◌≡◌, refl, sym, ◌∙◌, Bool, true, false, true≢false, not, ◌&&◌, ◌||◌, leb, leb-false, ltb-true, not-true, ◌/◌, List, [], ◌∷◌, ℕ, suc, ◌+◌, ◌≤◌, ◌<◌}
-use Rattle.integer.specs.Base.{add-one, arith, ℤ, nat_abs, length, get_or, drop, drop_of_length-le, drop-cons, eqb, eq-eqb, ne_eqb, eqb-true}
-use Rattle.integer.specs.Base.{not-false, w64, w32, Fits, SFits, to_z, of_z}
+use Rattle.std.specs.Prelude.{◌≡◌, refl, Bool, true, false, not, ◌&&◌, ◌||◌, leb, ◌/◌, List, [], ◌∷◌, ℕ, suc, ◌+◌, ◌≤◌, ◌<◌}
+use Rattle.std.proofs.Common.{sym, ◌∙◌, true≢false, leb-false, ltb-true}
+use Rattle.std.proofs.lemmas.Bool.{not-true}
+use Rattle.std.specs.Prelude.{ℤ, nat_abs, length, get_or, drop, eqb}
+use Rattle.std.proofs.Common.{add-one, arith, drop_of_length-le, drop-cons, eq-eqb, ne_eqb, eqb-true}
+use Rattle.std.proofs.lemmas.Bool.{not-false}
+use Rattle.std.specs.Int.{w64, w32}
+use mir.Val.{Fits, SFits, to_z, of_z}
 use Rattle.integer.proofs.{reads}
 use Rattle.ring.specs.{in_range}
 use Rattle.encoder.specs.{InForce, Sound, wrong_buffer, no_axis, when, ◌before◌}

@@ -1,6 +1,8 @@
 -- After each entry of a batch the running values are the unshifted position and what dividing place × M by R leaves (document 02, request 4).
 -- place × M goes around R × L × M. Rest, units and ranges are its digits, and an entry adds d × M to it.
-use Rattle.integer.specs.Base.{◌≡◌, refl, sym, ap, Bool, true, false, List, [], ◌∷◌, map, ℕ, ◌+◌, ◌*◌, ◌/◌, ◌%◌, ◌<◌, arith, ltb, ltb-true, ltb-false, digits_div, cond, ◌-◌, ℤ, pos, ◌+ℤ◌, ◌*ℤ◌}
+use Rattle.std.specs.Prelude.{◌≡◌, refl, Bool, true, false, List, [], ◌∷◌, map, ℕ, ◌+◌, ◌*◌, ◌/◌, ◌%◌, ◌<◌, ltb, cond, ◌-◌, ℤ, pos, ◌+ℤ◌, ◌*ℤ◌}
+use Rattle.std.proofs.Common.{sym, ap, arith, ltb-true, ltb-false}
+use Rattle.std.proofs.Math.Arith.{digits_div}
 use Rattle.integer.specs.{◌modulo◌, ◌quotient◌}
 use Rattle.integer.proofs.{add_is, mul_is, modulo-lt, modulo-has, modulo-is, Splits, splits, around}
 use Rattle.encoder.specs.{InForce, Sound}

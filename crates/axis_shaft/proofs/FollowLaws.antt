@@ -1,8 +1,11 @@
 -- The walk of a batch that writes. At the i-th reading it keeps what is still to be written; at the end of the list nothing is left. It carries units
 -- and rest, and these are at each entry those of the shaft.
-use Rattle.integer.specs.Base.{◌≡◌, refl, sym, ◌∙◌, List, [], ◌∷◌, ◌++◌, append_assoc, append-nil, ℕ, suc, ◌+◌, ◌≤◌, ◌<◌}
-use Rattle.integer.specs.Base.{add-one, arith, ℤ, pos, ◌+ℤ◌, ap, length, get_or, take, drop, set, length-set, drop_of_length-le, drop-cons, take_all}
-use Rattle.integer.specs.Base.{w64, SFits, to_z, of_z}
+use Rattle.std.specs.Prelude.{◌≡◌, refl, List, [], ◌∷◌, ◌++◌, ℕ, suc, ◌+◌, ◌≤◌, ◌<◌}
+use Rattle.std.proofs.Common.{sym, ◌∙◌, append_assoc, append-nil}
+use Rattle.std.specs.Prelude.{ℤ, pos, ◌+ℤ◌, length, get_or, take, drop, set}
+use Rattle.std.proofs.Common.{add-one, arith, ap, length-set, drop_of_length-le, drop-cons, take_all}
+use Rattle.std.specs.Int.{w64}
+use mir.Val.{SFits, to_z, of_z}
 use Rattle.integer.proofs.{reads}
 use Rattle.integer.specs.{◌modulo◌}
 use Rattle.encoder.specs.{InForce, Sound}

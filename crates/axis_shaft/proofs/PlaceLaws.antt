@@ -1,5 +1,8 @@
 -- The place: R × L and its products fit the machine's words, and each function gives what its definition says.
-use Rattle.integer.specs.Base.{◌≡◌, refl, ◌∙◌, ℕ, ◌-◌, ◌*◌, ◌/◌, ◌%◌, ◌^◌, ◌≤◌, ◌<◌, arith, ℤ, pos, ◌+ℤ◌, w64, w32, Fits, SFits, to_z, of_z}
+use Rattle.std.specs.Prelude.{◌≡◌, refl, ℕ, ◌-◌, ◌*◌, ◌/◌, ◌%◌, ◌^◌, ◌≤◌, ◌<◌, ℤ, pos, ◌+ℤ◌}
+use Rattle.std.proofs.Common.{◌∙◌, arith}
+use Rattle.std.specs.Int.{w64, w32}
+use mir.Val.{Fits, SFits, to_z, of_z}
 use Rattle.integer.specs.{◌modulo◌}
 use Rattle.integer.proofs.{add_is, reads, modulo-lt, modulo-alike}
 use Rattle.ring.specs.{on_ring}

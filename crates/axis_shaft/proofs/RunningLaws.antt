@@ -1,7 +1,13 @@
 -- Units and rest through a batch, in machine words. Units that stay within the total range need no remainder by L, nor do positions; where a total
 -- range ends, the units are counted ahead by whole rounds of M total ranges and divided by L as a natural number.
-use Rattle.integer.specs.Base.{◌≡◌, refl, sym, ◌∙◌, ap, true, false≢true, ◌&&◌, ℕ, ◌+◌, ◌*◌, ◌/◌, ◌%◌, ◌^◌, ◌≤◌, ◌<◌, arith, T, ltb, leb, ℤ, pos, negsuc, nat_abs, ◌+ℤ◌, ◌-ℤ◌}
-use Rattle.integer.specs.Base.{lt_z, non_neg, ltb-true, w64, w32, Fits, SFits, to_z, of_z, to_z_pos}
+use Rattle.std.specs.Prelude.{◌≡◌, refl, true, ◌&&◌, ℕ, ◌+◌, ◌*◌, ◌/◌, ◌%◌, ◌^◌, ◌≤◌, ◌<◌, T, ltb, leb, ℤ, pos, negsuc, nat_abs, ◌+ℤ◌, ◌-ℤ◌}
+use Rattle.std.proofs.Common.{sym, ◌∙◌, ap, arith}
+use Rattle.std.proofs.lemmas.Bool.{false≢true}
+use Rattle.std.proofs.Common.{ltb-true}
+use Rattle.std.specs.Int.Signed.{lt_z, non_neg}
+use Rattle.std.specs.Int.{w64, w32}
+use mir.Val.{Fits, SFits, to_z, of_z}
+use Rattle.std.proofs.lemmas.Int.{to_z_pos}
 use Rattle.integer.specs.{◌modulo◌}
 use Rattle.integer.proofs.{above, below, apart, add_is, diff_is, of_eq, reads, abs_is, fits-abs, modulo-lt, modulo-is, Splits, splits-rest, splits-whole}
 use Rattle.ring.specs.{on_ring}

@@ -1,7 +1,13 @@
 -- Raw numbers: the oriented number, the difference, and the move or its refusal. A move is at most C, so that every number fits its word.
 pub use borrow.Author.Rules.{rules}
-use Rattle.integer.specs.Base.{◌≡◌, refl, sym, ◌∙◌, Bool, true, false, cond, ℕ, zero, suc, ◌+◌, ◌-◌, ◌*◌, ◌/◌, ◌^◌, ◌≤◌, ◌<◌, arith, ltb, leb, ℤ, pos, neg_ℤ, nat_abs, ◌-ℤ◌}
-use Rattle.integer.specs.Base.{lt-ltb, le-ltb, ne_eqb, eqb, eqb-false, le-leb, lt-leb, leb-true, leb-false, w64, SFits, to_z, of_z, to_z_pos}
+use Rattle.std.specs.Prelude.{◌≡◌, refl, Bool, true, false, cond, ℕ, zero, suc, ◌+◌, ◌-◌, ◌*◌, ◌/◌, ◌^◌, ◌≤◌, ◌<◌, ltb, leb, ℤ, pos, neg_ℤ, nat_abs, ◌-ℤ◌}
+use Rattle.std.proofs.Common.{sym, ◌∙◌, arith}
+use Rattle.std.specs.Prelude.{eqb}
+use Rattle.std.proofs.Common.{lt-ltb, le-ltb, ne_eqb, le-leb, leb-true, leb-false}
+use Rattle.std.proofs.lemmas.Bool.{eqb-false, lt-leb}
+use Rattle.std.specs.Int.{w64}
+use mir.Val.{SFits, to_z, of_z}
+use Rattle.std.proofs.lemmas.Int.{to_z_pos}
 use Rattle.integer.specs.{◌modulo◌}
 use Rattle.integer.proofs.{signed, neg_is, diff_is, reads, abs_is, fits-abs, diff-fits, diff-reads, modulo-lt, modulo-is, modulo-alike}
 use Rattle.encoder.specs.{InForce, Sound, wrong_turn, when, answer}

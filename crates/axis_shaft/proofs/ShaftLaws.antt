@@ -1,6 +1,11 @@
 -- The limits of a shaft, as a test and as facts. Then the answers of the public functions but the batch, by the tests before them.
-use Rattle.integer.specs.Base.{◌≡◌, refl, sym, ◌∙◌, Bool, true, false, not, ◌&&◌, ℕ, zero, suc, ◌%◌, ◌≤◌, ◌<◌, arith, ltb, leb, ℤ, not-true, not-false, lt-ltb}
-use Rattle.integer.specs.Base.{ltb-true, le-leb, lt-leb, w64, SFits, to_z, of_z}
+use Rattle.std.specs.Prelude.{◌≡◌, refl, Bool, true, false, not, ◌&&◌, ℕ, zero, suc, ◌%◌, ◌≤◌, ◌<◌, ltb, leb, ℤ}
+use Rattle.std.proofs.Common.{sym, ◌∙◌, arith, lt-ltb}
+use Rattle.std.proofs.lemmas.Bool.{not-true, not-false}
+use Rattle.std.proofs.Common.{ltb-true, le-leb}
+use Rattle.std.proofs.lemmas.Bool.{lt-leb}
+use Rattle.std.specs.Int.{w64}
+use mir.Val.{SFits, to_z, of_z}
 use Rattle.integer.proofs.{reads, modulo-lt}
 use Rattle.encoder.specs.{Units, InForce, wrong_turn, no_axis, when, answer, rules_fit, Sound}
 use Rattle.encoder.proofs.{refused-is, before-none, when-none, and_split, sound-of, fits-of}

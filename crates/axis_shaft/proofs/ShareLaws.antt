@@ -1,7 +1,11 @@
 -- A move in units, and the rest with it. A move is counted ahead by whole turns, so that it is divided as a natural number: the turns give whole
 -- units and leave nothing. So no case depends on its sign.
-use Rattle.integer.specs.Base.{◌≡◌, refl, ap, Bool, true, false, cond, ℕ, ◌+◌, ◌-◌, ◌*◌, ◌/◌, ◌%◌, ◌^◌, ◌≤◌, ◌<◌, arith, ltb, ℤ, pos, nat_abs, ◌+ℤ◌, ◌-ℤ◌, ◌*ℤ◌}
-use Rattle.integer.specs.Base.{lt-ltb, le-ltb, w64, Fits, SFits, to_z, of_z, to_z_pos}
+use Rattle.std.specs.Prelude.{◌≡◌, refl, Bool, true, false, cond, ℕ, ◌+◌, ◌-◌, ◌*◌, ◌/◌, ◌%◌, ◌^◌, ◌≤◌, ◌<◌, ltb, ℤ, pos, nat_abs, ◌+ℤ◌, ◌-ℤ◌, ◌*ℤ◌}
+use Rattle.std.proofs.Common.{ap, arith}
+use Rattle.std.proofs.Common.{lt-ltb, le-ltb}
+use Rattle.std.specs.Int.{w64}
+use mir.Val.{Fits, SFits, to_z, of_z}
+use Rattle.std.proofs.lemmas.Int.{to_z_pos}
 use Rattle.integer.proofs.{above, below, apart, add_is, diff_is, mul_is, reads, abs_is, fits-abs, mul-le, modulo-lt, Splits, splits-rest, splits-whole, quotient-most}
 use Rattle.encoder.specs.{InForce, Sound}
 use Rattle.axis_shaft.specs.{Share, Lead, share_of, carried, lead_of}

@@ -1,6 +1,8 @@
 -- The move of a reading that is taken is document 01's d (rule 3): −C/2 < d < C/2, and d is the difference of the oriented numbers up to a
 -- multiple of C. Ahead by less than half the range, or back by what is left of it.
-use Rattle.integer.specs.Base.{◌≡◌, refl, Bool, true, false, ℕ, suc, ◌-◌, ◌*◌, ◌<◌, arith, eqb, ltb, leb, ℤ, pos, negsuc, nat_abs, ◌-ℤ◌, eqb-false, ltb-true, ltb-false}
+use Rattle.std.specs.Prelude.{◌≡◌, refl, Bool, true, false, ℕ, suc, ◌-◌, ◌*◌, ◌<◌, eqb, ltb, leb, ℤ, pos, negsuc, nat_abs, ◌-ℤ◌}
+use Rattle.std.proofs.Common.{arith, ltb-true, ltb-false}
+use Rattle.std.proofs.lemmas.Bool.{eqb-false}
 use Rattle.integer.specs.{◌modulo◌}
 use Rattle.integer.proofs.{signed, apart, diff_is, abs_is, modulo-is}
 use Rattle.encoder.specs.{InForce, wrong_turn, half_range, when, Sound}

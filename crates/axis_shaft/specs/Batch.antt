@@ -1,5 +1,5 @@
 -- A batch, document 01's pass: a list of raw numbers, and a list of positions of the same length, each as if read singly (rule 7).
-use Rattle.integer.specs.Base.{Bool, false, cond, not, ◌&&◌, ◌||◌, List, [], ◌∷◌, ℕ, ◌-◌, ◌/◌, eqb, leb, ℤ, length}
+use Rattle.std.specs.Prelude.{Bool, false, cond, not, ◌&&◌, ◌||◌, List, [], ◌∷◌, ℕ, ◌-◌, ◌/◌, eqb, leb, ℤ, length}
 use Rattle.ring.specs.{in_range}
 use Rattle.encoder.specs.{InForce, wrong_buffer, no_axis, when, ◌before◌, answer}
 use Rattle.axis_shaft.specs.{declared.Shaft.Shaft, declared.Moved.Moved, declared.Moved.TheVariants.To, declared.Moved.TheVariants.Refused, Rules.inside}

@@ -1,5 +1,5 @@
 -- The shaft: its place and its last reading (document 01, "The axis", rules 1 to 5; rows 9, 10 and 16).
-use Rattle.integer.specs.Base.{Bool, cond, not, ◌&&◌, ℕ, ◌-◌, ◌*◌, ◌/◌, ◌%◌, ◌^◌, ◌<◌, eqb, ltb, leb, ℤ, pos, neg_ℤ, ◌+ℤ◌, ◌-ℤ◌}
+use Rattle.std.specs.Prelude.{Bool, cond, not, ◌&&◌, ℕ, ◌-◌, ◌*◌, ◌/◌, ◌%◌, ◌^◌, ◌<◌, eqb, ltb, leb, ℤ, pos, neg_ℤ, ◌+ℤ◌, ◌-ℤ◌}
 use Rattle.integer.specs.{◌modulo◌}
 use Rattle.encoder.specs.{InForce, wrong_turn, half_range, no_axis, when, ◌before◌, answer, rules_fit, Sound}
 use Rattle.axis_shaft.specs.{declared.Shaft.Shaft, declared.Moved.Moved, declared.Moved.TheVariants.To, declared.Moved.TheVariants.Refused as NotMoved}

@@ -1,5 +1,5 @@
 -- Units and rest as running values (document 02, request 4): each entry of a batch works them out from its own move and the two before it.
-use Rattle.integer.specs.Base.{cond, List, [], ◌∷◌, ℕ, ◌+◌, ◌-◌, ◌*◌, ◌/◌, ◌%◌, ◌^◌, ◌<◌, ltb, ℤ, pos, ◌+ℤ◌, ◌*ℤ◌}
+use Rattle.std.specs.Prelude.{cond, List, [], ◌∷◌, ℕ, ◌+◌, ◌-◌, ◌*◌, ◌/◌, ◌%◌, ◌^◌, ◌<◌, ltb, ℤ, pos, ◌+ℤ◌, ◌*ℤ◌}
 use Rattle.integer.specs.{◌modulo◌, ◌quotient◌}
 use Rattle.encoder.specs.{InForce}
 use Rattle.axis_shaft.specs.{declared.Shaft.Shaft, declared.running.Running.Running, declared.running.Share.Share, declared.running.Lead.Lead}

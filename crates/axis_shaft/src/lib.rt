@@ -6,7 +6,7 @@ mod place;
 mod raw;
 mod running;
 
-ghost use Rattle.integer.specs.Base.{◌≡◌};
+ghost use Rattle.std.specs.Prelude.{◌≡◌};
 ghost use Rattle.encoder.specs.{rules_fit};
 ghost use Rattle.axis_shaft.specs.{inside, begun, approached, moved, moved_by, reported_at, batch_refusal, batched, batched_list};
 

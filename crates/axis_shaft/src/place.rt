@@ -1,5 +1,5 @@
 // The place, kept modulo R x L, and its position (document 01, "The axis", rules 3 to 5).
-ghost use Rattle.integer.specs.Base.{◌≡◌, ◌<◌};
+ghost use Rattle.std.specs.Prelude.{◌≡◌, ◌<◌};
 ghost use Rattle.encoder.specs.{Sound};
 ghost use Rattle.axis_shaft.specs.{period, Inside, move_of, moved_to, unshifted, position_at};
 

@@ -1,5 +1,5 @@
 // Raw numbers of the sensor. They begin again at 0 after C (document 01, "The axis", rules 1 and 3).
-ghost use Rattle.integer.specs.Base.{◌≡◌, ◌≤◌, ◌<◌, ◌^◌, pos, ◌-ℤ◌};
+ghost use Rattle.std.specs.Prelude.{◌≡◌, ◌≤◌, ◌<◌, ◌^◌, pos, ◌-ℤ◌};
 ghost use Rattle.integer.specs.{◌modulo◌};
 ghost use Rattle.encoder.specs.{Sound};
 ghost use Rattle.axis_shaft.specs.{oriented, difference, shorter, move_of, half_refusal, move_refusal, approach_from, gap, doubtful, refusal_in};

@@ -1,6 +1,6 @@
 // Units and rest as running values (document 02, request 4): each entry of a batch works them out from its own move and the two before it. The
 // place has no part in it.
-ghost use Rattle.integer.specs.Base.{◌≡◌, ◌≤◌, ◌<◌, ◌^◌, length, pos, nat_abs, ◌+ℤ◌};
+ghost use Rattle.std.specs.Prelude.{◌≡◌, ◌≤◌, ◌<◌, ◌^◌, length, pos, nat_abs, ◌+ℤ◌};
 ghost use Rattle.integer.specs.{◌modulo◌};
 ghost use Rattle.encoder.specs.{Sound};
 ghost use Rattle.axis_shaft.specs.{Inside, refusal_in, after, positions_in};

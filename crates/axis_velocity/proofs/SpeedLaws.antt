@@ -1,5 +1,8 @@
 -- The answers of a velocity and of a shaft that moves with one: the first refusal in the table's order, or the rate of the move.
-use Rattle.integer.specs.Base.{◌≡◌, refl, sym, ◌∙◌, Bool, true, false, not, ℕ, zero, suc, ◌^◌, ◌≤◌, ◌<◌, arith, ℤ, nat_abs, eq-eqb, ne_eqb, w64, w32, to_z, of_z}
+use Rattle.std.specs.Prelude.{◌≡◌, refl, Bool, true, false, not, ℕ, zero, suc, ◌^◌, ◌≤◌, ◌<◌, ℤ, nat_abs}
+use Rattle.std.proofs.Common.{sym, ◌∙◌, arith, eq-eqb, ne_eqb}
+use Rattle.std.specs.Int.{w64, w32}
+use mir.Val.{to_z, of_z}
 use Rattle.integer.proofs.{reads}
 use Rattle.encoder.specs.{InForce, no_axis, when, ◌before◌, answer, Sound}
 use Rattle.encoder.proofs.{refused-is, before-first, before-none, when-none}

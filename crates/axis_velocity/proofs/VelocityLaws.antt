@@ -1,7 +1,12 @@
 -- The rate of a move. Products and quotient fit their words, since their factors are small.
 pub use borrow.Author.Rules.{rules}
-use Rattle.integer.specs.Base.{◌≡◌, ◌∙◌, true, false, ℕ, ◌*◌, ◌^◌, ◌≤◌, ◌<◌, arith, ℤ, pos, negsuc, nat_abs, ◌*ℤ◌, lt_z, quot_z, ◌≤ℤ◌, eq-eqb, ne_eqb, w64, w32, Fits}
-use Rattle.integer.specs.Base.{SFits, to_z, of_z, to_z_pos}
+use Rattle.std.specs.Prelude.{◌≡◌, true, false, ℕ, ◌*◌, ◌^◌, ◌≤◌, ◌<◌, ℤ, pos, negsuc, nat_abs, ◌*ℤ◌, ◌≤ℤ◌}
+use Rattle.std.proofs.Common.{◌∙◌, arith, eq-eqb, ne_eqb}
+use Rattle.std.specs.Int.Signed.{lt_z, quot_z}
+use Rattle.std.specs.Int.{w64, w32}
+use mir.Val.{Fits}
+use mir.Val.{SFits, to_z, of_z}
+use Rattle.std.proofs.lemmas.Int.{to_z_pos}
 use Rattle.integer.specs.{clamp}
 use Rattle.integer.proofs.{signed, clamp-within, reads, fits-abs, mul-le, quot_le}
 use Rattle.encoder.specs.{InForce, Sound}

@@ -1,5 +1,6 @@
 -- Velocity (document 01, "Velocity"; row 14).
-use Rattle.integer.specs.Base.{cond, not, ℕ, ◌*◌, eqb, ℤ, pos, negsuc, ◌*ℤ◌, quot_z}
+use Rattle.std.specs.Prelude.{cond, not, ℕ, ◌*◌, eqb, ℤ, pos, negsuc, ◌*ℤ◌}
+use Rattle.std.specs.Int.Signed.{quot_z}
 use Rattle.integer.specs.{clamp}
 use Rattle.encoder.specs.{InForce, nothing_elapsed, no_axis, when, ◌before◌, answer}
 use Rattle.sensor.specs.{raw_of, step_refusal}

@@ -1,7 +1,7 @@
 // How fast the shaft runs, from a new reading and the time since the last one (document 01, "Velocity").
 #![tactic(auto)]
 
-ghost use Rattle.integer.specs.Base.{◌≡◌, ◌<◌, ◌≤◌, ◌^◌, nat_abs};
+ghost use Rattle.std.specs.Prelude.{◌≡◌, ◌<◌, ◌≤◌, ◌^◌, nat_abs};
 ghost use Rattle.integer.specs.{clamp};
 ghost use Rattle.encoder.specs.{Sound};
 ghost use Rattle.axis.specs.{Ready};

@@ -1,6 +1,8 @@
 -- The octets that were read stand within their buffer.
 pub use borrow.Author.Rules.{rules}
-use Rattle.integer.specs.Base.{◌≡◌, sym, List, ℕ, ◌≤◌, arith, length, take, drop, length-take-le, put_mid, same_len_mid}
+use Rattle.std.specs.Prelude.{◌≡◌, List, ℕ, ◌≤◌, length, take, drop}
+use Rattle.std.proofs.Common.{sym, arith, length-take-le}
+use borrow.Rule.Slice.PartMut.{put_mid, same_len_mid}
 use Rattle.axislog.specs.{declared.Input.Input, Read, Within}
 use Rattle.io.{specs.Counts.Counts}
 

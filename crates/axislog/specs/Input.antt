@@ -1,5 +1,5 @@
 -- What reading standard input leaves.
-use Rattle.integer.specs.Base.{ℕ, List}
+use Rattle.std.specs.Prelude.{ℕ, List}
 use Rattle.axislog.specs.{declared.Input.Input, declared.Input.TheVariants.Read, declared.Input.TheVariants.Failed}
 use Rattle.io.{specs.Counts.Counts}
 

@@ -1,6 +1,6 @@
 -- A state of a log beside its book: a started axis is a state of the library's own run, beside the same ledger, and the accuracy theorem holds of that
 -- run from here on. So an accepted line shows a position that agrees, and a refused line changes nothing.
-use Rattle.integer.specs.Base.{◌≡◌, refl, List, [], ℕ, zero, suc, ℤ}
+use Rattle.std.specs.Prelude.{◌≡◌, refl, List, [], ℕ, zero, suc, ℤ}
 use Rattle.encoder.specs.{answer}
 use Rattle.axis_shaft.specs.{Reported, At as Found, declared.Reported.TheVariants.Refused as Outside}
 use Rattle.axis.specs.{Axis, reported, next}

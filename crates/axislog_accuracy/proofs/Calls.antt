@@ -1,6 +1,7 @@
 -- A reading and a preset on a started axis. The axis is within its limits and its last raw number is the ledger's, so that a call answers the table's
 -- number. Where the table takes the call, the library's run makes the same call and goes on beside the ledger after it.
-use Rattle.integer.specs.Base.{◌≡◌, refl, ap, ◌∙◌, Bool, true, false, not, List, [], ◌∷◌, ℕ, ℤ}
+use Rattle.std.specs.Prelude.{◌≡◌, refl, Bool, true, false, not, List, [], ◌∷◌, ℕ, ℤ}
+use Rattle.std.proofs.Common.{ap, ◌∙◌}
 use Rattle.integer.specs.{◌modulo◌}
 use Rattle.encoder.specs.{no_axis, when, ◌before◌, answer}
 use Rattle.axis_shaft.specs.{Reported, At as Found, declared.Reported.TheVariants.Refused as Outside, move_refusal, moved_to}

@@ -1,5 +1,5 @@
 -- The first reading of an axis that waits: where the table takes it, it is a start of the library's run.
-use Rattle.integer.specs.Base.{◌≡◌, refl, ℕ, ℤ}
+use Rattle.std.specs.Prelude.{◌≡◌, refl, ℕ, ℤ}
 use Rattle.axis_shaft.specs.{nowhere, started}
 use Rattle.axis.specs.{Axis, fresh, start_raw}
 use Rattle.axis.proofs.{first as first_at}

@@ -1,6 +1,6 @@
 -- THE THEOREM: what is claimed of every log program in specs/Log.antt holds of axislog. Line by line, each form by its own law: state and book
 -- stand beside each other before the first line, and each line leaves them so.
-use Rattle.integer.specs.Base.{refl, List, [], ◌∷◌, ℤ}
+use Rattle.std.specs.Prelude.{refl, List, [], ◌∷◌, ℤ}
 use Rattle.encoder.specs.{refusal_on}
 use Rattle.axislog_forms.specs.{Form, Axis, Read, Preset, Nothing, form}
 use Rattle.axislog_state.specs.{State, plate_of, parameters_of, unstarted, empty, ready, set_up, read, preset, reply}

@@ -1,6 +1,7 @@
 -- Worthless log programs break the claim, each on three lines of document 01's listing: where a position is due, none is printed, or no whole number
 -- of ranges brings it within a unit of the exact one, or after a preset it is not the one that rule 6 gives.
-use Rattle.integer.specs.Base.{◌≡◌, refl, List, [], ◌∷◌, ℕ, arith, pos}
+use Rattle.std.specs.Prelude.{◌≡◌, refl, List, [], ◌∷◌, ℕ, pos}
+use Rattle.std.proofs.Common.{arith}
 use Rattle.integer.specs.{◌modulo◌}
 use Rattle.ring.specs.{in_range}
 use Rattle.encoder.specs.{plate_refusal, fields_refusal, refusal_on, rules_of, rules_fit}

@@ -12,7 +12,7 @@
 --
 -- The claim is of any log program, and sees only its answer to each line. Log.antt in proofs/ proves it of axislog; Worthless.antt
 -- there refutes it of a program that refuses every line, of one that always shows 0, and of one that ignores presets.
-use Rattle.integer.specs.Base.{◌≡◌, false, List, [], ◌∷◌, ℕ, ℤ}
+use Rattle.std.specs.Prelude.{◌≡◌, false, List, [], ◌∷◌, ℕ, ℤ}
 use Rattle.integer.specs.{◌modulo◌}
 use Rattle.encoder.specs.{no_form, no_axis, answer, refusal_on}
 use Rattle.accuracy.specs.{first_number, raw_reading, presetting, Device, force, Ledger.Ledger, start_by, opened, refusal_by, made, with_readings, put, TrueSteps, Agrees}

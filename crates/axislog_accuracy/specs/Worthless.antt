@@ -1,6 +1,6 @@
 -- Log programs that document 01 would send back ("Programs we would send back"), each as axislog but for what it prints. Each breaks the claim:
 -- proofs/Worthless.antt.
-use Rattle.integer.specs.Base.{ℕ, List}
+use Rattle.std.specs.Prelude.{ℕ, List}
 use Rattle.integer.specs.{ascii}
 use Rattle.encoder.specs.{no_form}
 use Rattle.axis.specs.{Axis, unshifted_of}

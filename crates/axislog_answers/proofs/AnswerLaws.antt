@@ -1,6 +1,10 @@
 -- The line of each answer: word, digits and end are copied one after the other, and sixteen octets hold them.
 pub use borrow.Author.Rules.{rules}
-use Rattle.integer.specs.Base.{◌≡◌, sym, ap, ◌∙◌, List, ◌++◌, ℕ, ◌+◌, ◌-◌, ◌≤◌, arith, length, take, drop, replicate, length-append, put_mid, w8, w32, w64, Fits}
+use Rattle.std.specs.Prelude.{◌≡◌, List, ◌++◌, ℕ, ◌+◌, ◌-◌, ◌≤◌, length, take, drop, replicate}
+use Rattle.std.proofs.Common.{sym, ap, ◌∙◌, arith, length-append}
+use Rattle.std.specs.Int.{w8, w32, w64}
+use mir.Val.{Fits}
+use borrow.Rule.Slice.PartMut.{put_mid}
 use Rattle.integer.specs.{ascii}
 use Rattle.integer.proofs.{over_first, over-next, part_end}
 use Rattle.axislog_answers.specs.{Answer, Ready, At, Refused, Line, decimal, number_form, text, held, line}

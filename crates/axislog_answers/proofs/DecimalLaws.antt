@@ -1,6 +1,9 @@
 -- The shortest decimal of a number is its text, and its length. By induction: take off the last digit.
-use Rattle.integer.specs.Base.{◌≡◌, Bool, true, false, cond, [], ◌∷◌, ◌++◌, ℕ, zero, suc, ◌+◌, ◌/◌, ◌%◌, ◌^◌, ◌≤◌, ◌<◌, arith, ltb, length, length-append, lt-ltb}
-use Rattle.integer.specs.Base.{le-ltb, w32, Fits}
+use Rattle.std.specs.Prelude.{◌≡◌, Bool, true, false, cond, [], ◌∷◌, ◌++◌, ℕ, zero, suc, ◌+◌, ◌/◌, ◌%◌, ◌^◌, ◌≤◌, ◌<◌, ltb, length}
+use Rattle.std.proofs.Common.{arith, length-append, lt-ltb}
+use Rattle.std.proofs.Common.{le-ltb}
+use Rattle.std.specs.Int.{w32}
+use mir.Val.{Fits}
 use Rattle.axislog_answers.specs.{decimal_below, decimal}
 use Rattle.io.{specs.Digits.digits, specs.Digits.Fewest}
 use native.Mathlib.Numerals.{sub-one}

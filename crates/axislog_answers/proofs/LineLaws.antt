@@ -1,5 +1,6 @@
 -- The text of an answer stands at the start of its line.
-use Rattle.integer.specs.Base.{◌≡◌, refl, sym, ap, ◌∙◌, ◌≤◌, arith, length, take, length-append, take_at}
+use Rattle.std.specs.Prelude.{◌≡◌, refl, ◌≤◌, length, take}
+use Rattle.std.proofs.Common.{sym, ap, ◌∙◌, arith, length-append, take_at}
 use Rattle.axislog_answers.specs.{Answer, Line, text, held, line}
 
 module _ (a : Answer) (r : Line) (r-is : r ≡ line a) where

@@ -1,7 +1,13 @@
 -- The loop over the lines of a log: what is written and the answers to come make up all answers.
 pub use borrow.Author.Rules.{rules}
-use Rattle.integer.specs.Base.{◌≡◌, refl, sym, ap, ◌∙◌, List, [], ◌∷◌, ◌++◌, append_assoc, append-nil, Bool, true, false, cond, ℕ, suc, ◌+◌, ◌-◌, ◌≤◌, ◌<◌, arith}
-use Rattle.integer.specs.Base.{eqb, length, take, drop, length-drop, length-append, drop_of_length-le, drop-drop, take-length, put_mid, w64, Fits}
+use Rattle.std.specs.Prelude.{◌≡◌, refl, List, [], ◌∷◌, ◌++◌, Bool, true, false, cond, ℕ, suc, ◌+◌, ◌-◌, ◌≤◌, ◌<◌}
+use Rattle.std.proofs.Common.{sym, ap, ◌∙◌, append_assoc, append-nil, arith}
+use Rattle.std.specs.Prelude.{eqb, length, take, drop}
+use Rattle.std.proofs.Common.{length-drop, length-append, drop_of_length-le, drop-drop}
+use Rattle.std.proofs.Math.Seq.{take-length}
+use Rattle.std.specs.Int.{w64}
+use mir.Val.{Fits}
+use borrow.Rule.Slice.PartMut.{put_mid}
 use Rattle.integer.specs.{over}
 use Rattle.integer.proofs.{part-over, over-again}
 use Rattle.axislog_forms.specs.{Form, form}

@@ -1,5 +1,6 @@
 -- What an accepted call tells of its two lengths, and that the answers fit into the buffer.
-use Rattle.integer.specs.Base.{◌≡◌, refl, sym, ◌∙◌, List, not, ℕ, zero, suc, ◌≤◌, arith, length, take, length-take-le, eqb, ltb, ltb-false, eqb-true}
+use Rattle.std.specs.Prelude.{◌≡◌, refl, List, not, ℕ, zero, suc, ◌≤◌, length, take, eqb, ltb}
+use Rattle.std.proofs.Common.{sym, ◌∙◌, arith, length-take-le, ltb-false, eqb-true}
 use Rattle.encoder.specs.{no_form, wrong_buffer, when, answer}
 use Rattle.encoder.proofs.{before-none, when-not, when-none}
 use Rattle.axislog_core.specs.{Outcome, Written, Refused, answers, call_refusal, outcome}

@@ -1,5 +1,6 @@
 -- The buffer always suffices: no line has more than thirteen octets of answer for each octet that it costs.
-use Rattle.integer.specs.Base.{◌≡◌, refl, List, [], ◌∷◌, Bool, true, false, cond, ℕ, suc, ◌+◌, ◌*◌, ◌-◌, ◌≤◌, arith, eqb, length, length-append}
+use Rattle.std.specs.Prelude.{◌≡◌, refl, List, [], ◌∷◌, Bool, true, false, cond, ℕ, suc, ◌+◌, ◌*◌, ◌-◌, ◌≤◌, eqb, length}
+use Rattle.std.proofs.Common.{arith, length-append}
 use Rattle.axislog_forms.specs.{Nothing, form}
 use Rattle.axislog_forms.proofs.{form-empty, form-one}
 use Rattle.axislog_answers.specs.{Answer, Ready, At, Refused, decimal_below, decimal, text, number_form}

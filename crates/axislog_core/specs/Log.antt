@@ -1,5 +1,5 @@
 -- The answers to a log, one a line (document 01, "The program axislog").
-use Rattle.integer.specs.Base.{ℕ, List, [], ◌∷◌, ◌++◌, cond, not, eqb, ltb, length}
+use Rattle.std.specs.Prelude.{ℕ, List, [], ◌∷◌, ◌++◌, cond, not, eqb, ltb, length}
 use Rattle.integer.specs.{over}
 use Rattle.encoder.specs.{no_form, wrong_buffer, when, ◌before◌, answer}
 use Rattle.axislog_forms.specs.{form}

@@ -1,7 +1,7 @@
 // What axislog answers to a log (document 01, "The program axislog").
 #![tactic(auto)]
 
-ghost use Rattle.integer.specs.Base.{◌≡◌, ◌++◌, ◌+◌, ◌≤◌, length, take};
+ghost use Rattle.std.specs.Prelude.{◌≡◌, ◌++◌, ◌+◌, ◌≤◌, length, take};
 ghost use Rattle.integer.specs.{over};
 ghost use Rattle.axislog_answers.specs.{text};
 ghost use Rattle.axislog_core.specs.{answers, call_refusal, outcome, written};

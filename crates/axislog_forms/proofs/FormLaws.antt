@@ -1,6 +1,10 @@
 -- Each form, by the words and numbers that were found or not found.
 pub use borrow.Author.Rules.{rules}
-use Rattle.integer.specs.Base.{◌≡◌, List, Bool, true, false, ℕ, ◌-ℤ◌, drop, w32, w64, Fits, SFits, to_z, of_z, to_z_pos, arith, eq-eqb, ne_eqb}
+use Rattle.std.specs.Prelude.{◌≡◌, List, Bool, true, false, ℕ, ◌-ℤ◌, drop}
+use Rattle.std.proofs.Common.{arith, eq-eqb, ne_eqb}
+use Rattle.std.specs.Int.{w32, w64}
+use mir.Val.{Fits, SFits, to_z, of_z}
+use Rattle.std.proofs.lemmas.Int.{to_z_pos}
 use Rattle.integer.specs.{ascii}
 use Rattle.integer.proofs.{diff-fits, diff-reads}
 use Rattle.axislog_lexer.specs.{Decimal, declared.number.Decimal.TheVariants.Number, Nothing as NoNumber, Place, At, Nowhere, past, ends, labelled, last}

@@ -1,5 +1,5 @@
 -- A line of no octet or of one is no form: each form begins with a word of more.
-use Rattle.integer.specs.Base.{◌≡◌, refl, [], ◌∷◌, ℕ}
+use Rattle.std.specs.Prelude.{◌≡◌, refl, [], ◌∷◌, ℕ}
 use Rattle.axislog_lexer.specs.{past, labelled}
 use Rattle.axislog_lexer.proofs.{past_one}
 use Rattle.axislog_forms.specs.{Nothing, axis, form}

@@ -1,6 +1,9 @@
 -- What each reader of words and numbers has found: it extends a front of the line by the word or the number. One law a reader, over any front.
-use Rattle.integer.specs.Base.{◌≡◌, refl, ◌∙◌, List, [], ◌∷◌, ◌++◌, append_assoc, append-nil, true, false≢true, ℕ, ◌+◌, ◌*◌, ◌≤◌, arith, ltb, eqb, length, drop}
-use Rattle.integer.specs.Base.{length-append, drop_of_length-le, drop_at, ltb-false, eqb-true, eqb-false}
+use Rattle.std.specs.Prelude.{◌≡◌, refl, List, [], ◌∷◌, ◌++◌, true, ℕ, ◌+◌, ◌*◌, ◌≤◌, ltb, eqb, length, drop}
+use Rattle.std.proofs.Common.{◌∙◌, append_assoc, append-nil, arith}
+use Rattle.std.proofs.lemmas.Bool.{false≢true}
+use Rattle.std.proofs.Common.{length-append, drop_of_length-le, drop_at, ltb-false, eqb-true}
+use Rattle.std.proofs.lemmas.Bool.{eqb-false}
 use Rattle.axislog_lexer.specs.{Decimal, declared.number.Decimal.TheVariants.Number, Nothing as NoNumber, Place, At, Nowhere, past, is_at, ends, digit_of, digits}
 use Rattle.axislog_lexer.specs.{number, number_after, labelled, closed, last}
 use Rattle.axislog_answers.specs.{decimal}

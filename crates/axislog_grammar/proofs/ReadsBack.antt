@@ -1,8 +1,11 @@
 -- A form as written is read as that form. Each law starts at a position p where the line continues as w ++ s and ends behind w, where it continues as s.
 -- So no law names what stands before p.
-use Rattle.integer.specs.Base.{◌≡◌, refl, sym, ap, ◌∙◌, Bool, true, false, cond, List, [], ◌∷◌, ◌++◌, append_assoc, append-nil, ℕ, zero, suc, ◌+◌, ◌/◌, ◌%◌, ◌^◌}
-use Rattle.integer.specs.Base.{◌≤◌, ◌<◌, arith, ltb, eqb, ℤ, pos, negsuc, +ℤ_idl, length, drop, length-append, length-drop, drop-drop, lt-ltb, le-ltb, eq-eqb}
-use Rattle.integer.specs.Base.{ne_eqb, ltb-true, ltb-false, eqb-true}
+use Rattle.std.specs.Prelude.{◌≡◌, refl, Bool, true, false, cond, List, [], ◌∷◌, ◌++◌, ℕ, zero, suc, ◌+◌, ◌/◌, ◌%◌, ◌^◌}
+use Rattle.std.proofs.Common.{sym, ap, ◌∙◌, append_assoc, append-nil}
+use Rattle.std.specs.Prelude.{◌≤◌, ◌<◌, ltb, eqb, ℤ, pos, negsuc, length, drop}
+use Rattle.std.proofs.Common.{arith, length-append, length-drop, drop-drop, lt-ltb, le-ltb, eq-eqb}
+use Rattle.std.proofs.Math.IntN.{+ℤ_idl}
+use Rattle.std.proofs.Common.{ne_eqb, ltb-true, ltb-false, eqb-true}
 use Rattle.integer.specs.{ascii}
 use Rattle.axislog_lexer.specs.{declared.number.Decimal.TheVariants.Number, At, Nowhere, past, ends, digit_of, digits, number, labelled, last}
 use Rattle.axislog_lexer.proofs.{digit_low, digit-is}

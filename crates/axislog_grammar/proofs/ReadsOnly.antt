@@ -1,6 +1,8 @@
 -- A line that is read as a form is that form as written. The law of a form chains the laws of its readers.
-use Rattle.integer.specs.Base.{◌≡◌, refl, ◌∙◌, List, [], ◌++◌, append_assoc, append-nil, Bool, true, false, cond, ℕ, zero, suc, ◌≤◌, arith, eqb, pos, negsuc, ◌-ℤ◌}
-use Rattle.integer.specs.Base.{+ℤ_idl, ne_eqb}
+use Rattle.std.specs.Prelude.{◌≡◌, refl, List, [], ◌++◌, Bool, true, false, cond, ℕ, zero, suc, ◌≤◌, eqb, pos, negsuc, ◌-ℤ◌}
+use Rattle.std.proofs.Common.{◌∙◌, append_assoc, append-nil, arith}
+use Rattle.std.proofs.Common.{ne_eqb}
+use Rattle.std.proofs.Math.IntN.{+ℤ_idl}
 use Rattle.integer.specs.{ascii}
 use Rattle.axislog_lexer.specs.{Decimal, Place, ends}
 use Rattle.axislog_forms.specs.{Form, Preset, Nothing, from, with, read, preset, scale, sequence, axis, form}

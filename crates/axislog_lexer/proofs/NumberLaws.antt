@@ -1,7 +1,8 @@
 -- A number at a position of a line. The loop takes one step of `digits` at each digit.
 pub use borrow.Author.Rules.{rules}
-use Rattle.integer.specs.Base.{◌≡◌, List, Bool, true, false, ℕ, ◌+◌, ◌-◌, ◌*◌, ◌≤◌, ◌<◌, add-one, length, get_or, drop, drop_of_length-le, drop-cons, lt-ltb, le-ltb}
-use Rattle.integer.specs.Base.{eq-eqb, ne_eqb}
+use Rattle.std.specs.Prelude.{◌≡◌, List, Bool, true, false, ℕ, ◌+◌, ◌-◌, ◌*◌, ◌≤◌, ◌<◌, length, get_or, drop}
+use Rattle.std.proofs.Common.{add-one, drop_of_length-le, drop-cons, lt-ltb, le-ltb}
+use Rattle.std.proofs.Common.{eq-eqb, ne_eqb}
 use Rattle.axislog_lexer.specs.{Decimal, declared.number.Decimal.TheVariants.Number, Nothing, Place, At, Nowhere, past, ends, digit_of, digits, number}
 use Rattle.axislog_lexer.specs.{labelled, last}
 

@@ -1,6 +1,7 @@
 -- A word at a position of a line, and the end of a line. The loop takes one step of `past` at each octet.
-use Rattle.integer.specs.Base.{◌≡◌, refl, List, [], ◌∷◌, Bool, true, false, cond, ℕ, ◌+◌, ◌≤◌, ◌<◌, add-one, eqb, length, get_or, drop, drop_of_length-le, drop-cons}
-use Rattle.integer.specs.Base.{eq-eqb, ne_eqb}
+use Rattle.std.specs.Prelude.{◌≡◌, refl, List, [], ◌∷◌, Bool, true, false, cond, ℕ, ◌+◌, ◌≤◌, ◌<◌, eqb, length, get_or, drop}
+use Rattle.std.proofs.Common.{add-one, drop_of_length-le, drop-cons}
+use Rattle.std.proofs.Common.{eq-eqb, ne_eqb}
 use Rattle.axislog_lexer.specs.{Place, At, Nowhere, past, ends}
 
 module _ (word line : List ℕ) (i k : ℕ) (r : Place) (inv : past (drop i word) k (drop k line) ≡ r) where

@@ -1,6 +1,7 @@
 -- The axis of a log stays within its limits: after any lines a started axis is acceptable, so that a call on it never gets 16, and a call that is
 -- taken is answered with the position. Call by call, by the laws of axis.
-use Rattle.integer.specs.Base.{◌≡◌, refl, List, [], ◌∷◌, true, false, ℕ, zero, suc, arith, ℤ}
+use Rattle.std.specs.Prelude.{◌≡◌, refl, List, [], ◌∷◌, true, false, ℕ, zero, suc, ℤ}
+use Rattle.std.proofs.Common.{arith}
 use Rattle.encoder.specs.{answer, refusal_on}
 use Rattle.axis.specs.{Axis, Next, acceptable, axis_refusal, position_of, reported, start_raw, read_raw, preset as preset_on}
 use Rattle.axis.proofs.{limits_of, accepts, raw-kept, preset-kept, raw-started-kept}

@@ -1,6 +1,9 @@
 -- What each form does to the axis of a log.
 pub use borrow.Author.Rules.{rules}
-use Rattle.integer.specs.Base.{◌≡◌, sym, ap, ◌∙◌, Bool, true, false, ℕ, ◌+◌, ◌*◌, ℤ, arith, w8, w64, Fits, SFits, to_z, of_z, bool_byte}
+use Rattle.std.specs.Prelude.{◌≡◌, Bool, true, false, ℕ, ◌+◌, ◌*◌, ℤ}
+use Rattle.std.proofs.Common.{sym, ap, ◌∙◌, arith}
+use Rattle.std.specs.Int.{w8, w64}
+use mir.Val.{Fits, SFits, to_z, of_z, bool_byte}
 use Rattle.integer.specs.{at}
 use Rattle.integer.proofs.{reads, flag-lt, at-is}
 use Rattle.encoder.specs.{Nameplate, Parameters, Class2, Units, answer, refusal_on}

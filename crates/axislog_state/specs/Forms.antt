@@ -1,5 +1,5 @@
 -- The axis of a log, and what a form does to it (document 01, "The program axislog").
-use Rattle.integer.specs.Base.{ℕ, ◌+◌, false, true, ℤ}
+use Rattle.std.specs.Prelude.{ℕ, ◌+◌, false, true, ℤ}
 use Rattle.integer.specs.{at}
 use Rattle.encoder.specs.{Nameplate, Parameters, Class2, no_form, no_axis, answer, plain_plate, refusal_on}
 use Rattle.axis_shaft.specs.{nowhere, Reported, At as Found, declared.Reported.TheVariants.Refused as Outside}

@@ -1,7 +1,7 @@
 // The axis of a log, and what a form does to it (document 01, "The program axislog").
 #![tactic(auto)]
 
-ghost use Rattle.integer.specs.Base.{◌≡◌};
+ghost use Rattle.std.specs.Prelude.{◌≡◌};
 ghost use Rattle.axislog_state.specs.{empty, unstarted, parameters_of, position_answer, refused, after, set_up, read, preset, reply};
 
 use axis::{Axis, Next};

@@ -1,7 +1,8 @@
 -- Acknowledging (document 01, "One cycle", its last paragraph, as request 3 words it): a held error is gone after the second of two cycles, if bit 15 is 1 in the
 -- first and 0 in the second, STW2_ENC bit 10 is 1 in both and in the second neither cause is present. An error that the first leaves is still held after the
 -- second, with its code, if a cause is present there. The link alone decides it (crate cyclic_link), so that each of the two may be of telegram 81 or 83.
-use Rattle.integer.specs.Base.{◌≡◌, ◌∙◌, Bool, true, false, ◌||◌, List, ℕ}
+use Rattle.std.specs.Prelude.{◌≡◌, Bool, true, false, ◌||◌, List, ℕ}
+use Rattle.std.proofs.Common.{◌∙◌}
 use Rattle.integer.specs.{bit}
 use Rattle.encoder.proofs.{before-none, when-none}
 use Rattle.axis.specs.{Axis, rules_on, axis_refusal}

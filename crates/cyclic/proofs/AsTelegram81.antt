@@ -1,6 +1,7 @@
 -- Request 1: unless the call is refused, telegram 83 goes forward exactly as telegram 81. Next axis, next link and the first twelve octets are those of
 -- telegram 81 for the same raw number and output, whatever twelve octets are lent there. What telegram 83 takes, telegram 81 takes too.
-use Rattle.integer.specs.Base.{◌≡◌, true, List, ℕ, length, take, take_at}
+use Rattle.std.specs.Prelude.{◌≡◌, true, List, ℕ, length, take}
+use Rattle.std.proofs.Common.{take_at}
 use Rattle.encoder.proofs.{before-none}
 use Rattle.axis.specs.{Axis, axis_refusal}
 use Rattle.cyclic_link.specs.{Link, link_refusal}

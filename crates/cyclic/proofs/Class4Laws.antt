@@ -1,5 +1,8 @@
 -- The words of class 4: control words out of the output octets, and the input octets.
-use Rattle.integer.specs.Base.{◌≡◌, ap, ◌∙◌, Bool, true, false, List, ℕ, ◌/◌, ◌%◌, ◌^◌, arith, take, drop, bit_and, and_mask}
+use Rattle.std.specs.Prelude.{◌≡◌, Bool, true, false, List, ℕ, ◌/◌, ◌%◌, ◌^◌, take, drop}
+use Rattle.std.proofs.Common.{ap, ◌∙◌, arith}
+use Rattle.std.specs.Int.Bits.{bit_and}
+use Rattle.std.proofs.lemmas.Nat.{and_mask}
 use Rattle.integer.specs.{bit, big_endian}
 use Rattle.integer.proofs.{Octets.Octets, big_endian-part}
 use Rattle.encoder.specs.{Fields, fields_of}

@@ -1,7 +1,8 @@
 -- Request 2, the operator's case. Bit 31 rises with a value too large and stays up, through any number of cycles that are faulty or have a value too large;
 -- none of them makes a preset. Then a cycle that is not faulty and has a value below L shows that value, and none after it makes a preset until the bit has
 -- been 0. By induction on the cycles: the link is due through the waiting ones, and spent behind the good one (cyclic_link, Due.antt).
-use Rattle.integer.specs.Base.{◌≡◌, ap, Bool, true, false, cond, List, [], ◌∷◌, ℕ, ◌<◌, pos}
+use Rattle.std.specs.Prelude.{◌≡◌, Bool, true, false, cond, List, [], ◌∷◌, ℕ, ◌<◌, pos}
+use Rattle.std.proofs.Common.{ap}
 use Rattle.integer.specs.{◌modulo◌, octets}
 use Rattle.encoder.proofs.{before-none, when-none}
 use Rattle.axis.specs.{rules_on, acceptable, axis_refusal, position_of, read_raw, asked, presetted}

@@ -1,6 +1,8 @@
 -- A cycle keeps nameplate and parameters, and so what is in force. It keeps the axis within its limits, since it is a reading and a preset whose value
 -- was tested, or held within them.
-use Rattle.integer.specs.Base.{◌≡◌, refl, ◌∙◌, Bool, true, false, false≢true, cond, List, ℕ, zero, suc, ◌<◌, ℤ, nat_abs}
+use Rattle.std.specs.Prelude.{◌≡◌, refl, Bool, true, false, cond, List, ℕ, zero, suc, ◌<◌, ℤ, nat_abs}
+use Rattle.std.proofs.Common.{◌∙◌}
+use Rattle.std.proofs.lemmas.Bool.{false≢true}
 use Rattle.encoder.specs.{Parameters, InForce}
 use Rattle.axis.specs.{Axis, Next, rules_on, Ready, next, at_raw, read_raw, read_raw_refusal, presetted}
 use Rattle.axis.proofs.{Limits, limits_of, accepts, raw-kept, presetted-kept}

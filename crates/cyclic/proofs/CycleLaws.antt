@@ -1,7 +1,10 @@
 -- One cycle on an axis within its limits. The two lengths decide whether it is refused; axis, link and input are what the calls yield, one after the
 -- other.
 pub use borrow.Author.Rules.{rules}
-use Rattle.integer.specs.Base.{◌≡◌, refl, sym, ap, ◌∙◌, Bool, true, false, cond, not, List, ℕ, ◌%◌, ◌^◌, ◌<◌, arith, eqb, nat_abs, length, eqb-true, w64, to_z, of_z}
+use Rattle.std.specs.Prelude.{◌≡◌, refl, Bool, true, false, cond, not, List, ℕ, ◌%◌, ◌^◌, ◌<◌, eqb, nat_abs, length}
+use Rattle.std.proofs.Common.{sym, ap, ◌∙◌, arith, eqb-true}
+use Rattle.std.specs.Int.{w64}
+use mir.Val.{to_z, of_z}
 use Rattle.integer.specs.{big_endian, octets}
 use Rattle.integer.proofs.{Octets.Octets, big_endian-lt, reads, fits-abs}
 use Rattle.encoder.specs.{Parameters, Fields, InForce, ◌before◌, fields_of}

@@ -1,6 +1,12 @@
 -- The raw number and the preset of a cycle. Nothing refuses a preset that is made, and the position after it is the one that it asks for.
-use Rattle.integer.specs.Base.{◌≡◌, refl, ap, true, false, not, ℕ, ◌<◌, arith, ℤ, pos, nat_abs, ◌+ℤ◌, ◌-ℤ◌, non_neg, T, not-false, not-true, w64, w32, Fits, SFits}
-use Rattle.integer.specs.Base.{to_z, of_z, to_z_pos}
+use Rattle.std.specs.Prelude.{◌≡◌, refl, true, false, not, ℕ, ◌<◌, ℤ, pos, nat_abs, ◌+ℤ◌, ◌-ℤ◌, T}
+use Rattle.std.proofs.Common.{ap, arith}
+use Rattle.std.proofs.lemmas.Bool.{not-false, not-true}
+use Rattle.std.specs.Int.Signed.{non_neg}
+use Rattle.std.specs.Int.{w64, w32}
+use mir.Val.{Fits, SFits}
+use mir.Val.{to_z, of_z}
+use Rattle.std.proofs.lemmas.Int.{to_z_pos}
 use Rattle.integer.proofs.{signed, add_is, diff_is, reads, fits-abs}
 use Rattle.encoder.specs.{Units, InForce}
 use Rattle.axis_shaft.specs.{Reported, At, declared.Reported.TheVariants.Refused, Shaft, Moved, To, moved, reported_at}

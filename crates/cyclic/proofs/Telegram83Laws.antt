@@ -1,7 +1,11 @@
 -- The cycle of telegram 83. Its raw number is answered as in telegram 81, since the shaft that moves with a velocity is the shaft that moves; and NIST_B
 -- stands behind the twelve octets.
-use Rattle.integer.specs.Base.{◌≡◌, refl, sym, ap, ◌∙◌, Bool, true, false, cond, not, ◌&&◌, List, ◌++◌, ℕ, zero, suc, ◌<◌, arith, eqb, ℤ, pos, length, take, drop, put_mid, post_of, eqb-true}
-use Rattle.integer.specs.Base.{ne_eqb, w32, SFits, to_z, of_z}
+use Rattle.std.specs.Prelude.{◌≡◌, refl, Bool, true, false, cond, not, ◌&&◌, List, ◌++◌, ℕ, zero, suc, ◌<◌, eqb, ℤ, pos, length, take, drop}
+use Rattle.std.proofs.Common.{sym, ap, ◌∙◌, arith, eqb-true}
+use borrow.Rule.Slice.PartMut.{put_mid, post_of}
+use Rattle.std.proofs.Common.{ne_eqb}
+use Rattle.std.specs.Int.{w32}
+use mir.Val.{SFits, to_z, of_z}
 use Rattle.integer.specs.{octets}
 use Rattle.integer.proofs.{reads, then-number}
 use Rattle.ring.specs.{complement}

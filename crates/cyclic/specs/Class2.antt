@@ -1,5 +1,5 @@
 -- The cycle of class 2: 4 octets out, 4 in (document 01, "One cycle", its second paragraph).
-use Rattle.integer.specs.Base.{ℕ, Bool, List}
+use Rattle.std.specs.Prelude.{ℕ, Bool, List}
 use Rattle.integer.specs.{big_endian, octets}
 use Rattle.axis.specs.{Axis, rules_on, position_of}
 use Rattle.cyclic_link.specs.{Link, Class2.preset}

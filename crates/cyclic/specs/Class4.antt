@@ -1,6 +1,6 @@
 -- The cycle of class 4, telegram 81: out STW2_ENC and G1_STW, in ZSW2_ENC, G1_ZSW, G1_XIST1 and G1_XIST2 (document 01, "One cycle", from its
 -- third paragraph on).
-use Rattle.integer.specs.Base.{ℕ, ◌/◌, ◌%◌, ◌^◌, Bool, cond, List, ◌++◌}
+use Rattle.std.specs.Prelude.{ℕ, ◌/◌, ◌%◌, ◌^◌, Bool, cond, List, ◌++◌}
 use Rattle.integer.specs.{bit, part, big_endian, octets}
 use Rattle.encoder.specs.{fields_of}
 use Rattle.axis.specs.{Axis, rules_on, unshifted_of, position_of}

@@ -1,6 +1,6 @@
 -- Request 2, the operator's case: a value too large is corrected while bit 31 stays up. Here are the cycles as data; `corrected` in proofs/Correction.antt
 -- is the theorem on them.
-use Rattle.integer.specs.Base.{ℕ, ◌≡◌, Bool, true, false, ◌||◌, List, [], ◌∷◌, leb}
+use Rattle.std.specs.Prelude.{ℕ, ◌≡◌, Bool, true, false, ◌||◌, List, [], ◌∷◌, leb}
 use Rattle.axis.specs.{Axis, rules_on, read_raw}
 use Rattle.cyclic_link.specs.{Link, Class2.asked, value}
 use Rattle.cyclic.specs.{declared.Cycled.Cycled, Raw.faulty_at, Class2.word_of, Cycle.class4, Cycle.cycle_refusal, Cycle.cycle, Cycle.cycle_input}

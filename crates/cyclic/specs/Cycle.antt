@@ -1,6 +1,6 @@
 -- One cycle, put together from its parts (document 01, "One cycle"; rows 13 and 16; request 3): an axis runs the cycle of the class that its parameters
 -- came from.
-use Rattle.integer.specs.Base.{ℕ, Bool, cond, not, ◌&&◌, List, eqb, length}
+use Rattle.std.specs.Prelude.{ℕ, Bool, cond, not, ◌&&◌, List, eqb, length}
 use Rattle.encoder.specs.{Parameters, InForce, wrong_buffer, when, ◌before◌, answer, fields_of}
 use Rattle.axis.specs.{Axis, Next, rules_on, axis_refusal}
 use Rattle.cyclic_link.specs.{Link, Life, Control, Reaction, life_of, link_refusal, Classes.reaction}

@@ -1,5 +1,5 @@
 -- The preset of a cycle, and the positions of the axis after it (document 01, "One cycle").
-use Rattle.integer.specs.Base.{cond}
+use Rattle.std.specs.Prelude.{cond}
 use Rattle.axis.specs.{Axis, unshifted_of, position_of, presetted}
 use Rattle.cyclic_link.specs.{Preset}
 use Rattle.cyclic.specs.declared.standing.Standing.{Standing}

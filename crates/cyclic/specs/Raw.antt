@@ -1,5 +1,5 @@
 -- The raw number that a cycle takes first (document 01, "One cycle", its first paragraph).
-use Rattle.integer.specs.Base.{ℕ, Bool, not, eqb}
+use Rattle.std.specs.Prelude.{ℕ, Bool, not, eqb}
 use Rattle.axis.specs.{Axis, read_raw}
 
 -- if 9 or 10 would refuse it, the cycle is faulty

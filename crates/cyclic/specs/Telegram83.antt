@@ -1,6 +1,6 @@
 -- Request 1, telegram 83: a cycle of its own for a class 4 axis, with the velocity in its input. 4 octets out, as in telegram 81; 16 in, the twelve of
 -- telegram 81 and then NIST_B. It is given the elapsed milliseconds e. Axis and link go forward as in telegram 81 (rows 13, 14 and 16).
-use Rattle.integer.specs.Base.{ℕ, Bool, cond, not, ◌&&◌, List, ◌++◌, eqb, ℤ, pos, length}
+use Rattle.std.specs.Prelude.{ℕ, Bool, cond, not, ◌&&◌, List, ◌++◌, eqb, ℤ, pos, length}
 use Rattle.integer.specs.{octets}
 use Rattle.ring.specs.{complement}
 use Rattle.encoder.specs.{wrong_buffer, nothing_elapsed, when, ◌before◌, answer}

@@ -1,5 +1,5 @@
 // The words of class 4, telegram 81 (document 01, "One cycle"): STW2_ENC and G1_STW out; ZSW2_ENC, G1_ZSW, G1_XIST1 and G1_XIST2 in.
-ghost use Rattle.integer.specs.Base.{◌≡◌, length};
+ghost use Rattle.std.specs.Prelude.{◌≡◌, length};
 ghost use Rattle.encoder.specs.{fields_of};
 ghost use Rattle.cyclic.specs.{standing};
 ghost use Rattle.cyclic.specs.Class4 as Class4;

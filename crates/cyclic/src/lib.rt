@@ -5,7 +5,7 @@ mod class4;
 mod standing;
 pub mod telegram83;
 
-ghost use Rattle.integer.specs.Base.{◌≡◌, length};
+ghost use Rattle.std.specs.Prelude.{◌≡◌, length};
 ghost use Rattle.encoder.specs.{◌before◌, fields_of};
 ghost use Rattle.axis.specs.{Ready};
 ghost use Rattle.cyclic_link.specs.{life_of, link_refusal};

@@ -1,5 +1,5 @@
 // What a cycle does to an axis within its limits: it takes the raw number, makes the preset and works out both positions.
-ghost use Rattle.integer.specs.Base.{◌≡◌, ◌<◌};
+ghost use Rattle.std.specs.Prelude.{◌≡◌, ◌<◌};
 ghost use Rattle.axis.specs.{Ready, read_raw};
 ghost use Rattle.cyclic_link.specs.{Possible};
 ghost use Rattle.cyclic.specs.{preset_by, standing, measured};

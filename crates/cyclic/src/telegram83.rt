@@ -1,5 +1,5 @@
 // Telegram 83 (request 1): the cycle of a class 4 axis with its velocity. The input is the twelve octets of telegram 81, then NIST_B.
-ghost use Rattle.integer.specs.Base.{◌≡◌, true, ◌<◌, length};
+ghost use Rattle.std.specs.Prelude.{◌≡◌, true, ◌<◌, length};
 ghost use Rattle.integer.specs.{octets};
 ghost use Rattle.ring.specs.{complement};
 ghost use Rattle.encoder.specs.{◌before◌, fields_of};

@@ -1,7 +1,7 @@
 -- Request 3: with block bit 5 at 1 and on a class 2 axis nothing else changes. On an axis without a sign of life, from a link within its limits, a cycle of
 -- either telegram answers, and leaves in axis, input and the rest of the link, what the former rules say, refused calls included, and also where block octet
 -- 10 is 0. Part by part (Parts.antt); only the limits of the link are asked for besides, and they hold.
-use Rattle.integer.specs.Base.{◌≡◌, refl, false, List, ◌++◌, ℕ, zero, suc, length}
+use Rattle.std.specs.Prelude.{◌≡◌, refl, false, List, ◌++◌, ℕ, zero, suc, length}
 use Rattle.integer.specs.{octets}
 use Rattle.ring.specs.{complement}
 use Rattle.encoder.specs.{◌before◌, answer, fields_of, sign_of_life}

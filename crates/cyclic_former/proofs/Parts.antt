@@ -1,6 +1,7 @@
 -- The parts of a cycle without a sign of life, beside those of the former rules. The counter is at no stop, and the only code is 0001h: so the code that is held
 -- is 0001h just when the former rules hold an error. By cases.
-use Rattle.integer.specs.Base.{◌≡◌, refl, Bool, true, false, cond, not, ◌&&◌, ◌||◌, List, ℕ, eqb, eqb-true}
+use Rattle.std.specs.Prelude.{◌≡◌, refl, Bool, true, false, cond, not, ◌&&◌, ◌||◌, List, ℕ, eqb}
+use Rattle.std.proofs.Common.{eqb-true}
 use Rattle.encoder.specs.{InForce}
 use Rattle.axis.specs.{Axis, rules_on, position_of}
 use Rattle.cyclic_link.specs.{Life, Link, code_by, code, held, within}

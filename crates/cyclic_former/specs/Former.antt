@@ -1,6 +1,6 @@
 -- One cycle by the rules before request 3: document 01, "One cycle", with requests 1 and 2, as they stood. The link has neither sign of life nor code, and no
 -- limits; G1_XIST2 is 0001h while an error is held.
-use Rattle.integer.specs.Base.{ℕ, ◌+◌, Bool, false, cond, not, ◌&&◌, ◌||◌, List, ◌++◌, ltb, pos, length}
+use Rattle.std.specs.Prelude.{ℕ, ◌+◌, Bool, false, cond, not, ◌&&◌, ◌||◌, List, ◌++◌, ltb, pos, length}
 use Rattle.integer.specs.{at, octets}
 use Rattle.ring.specs.{complement}
 use Rattle.encoder.specs.{Parameters, InForce, ◌before◌, answer}

@@ -1,7 +1,8 @@
 -- Acknowledging, by the link alone (document 01, "One cycle", its last paragraph, as request 3 words it). Bit 15 is 1 in one cycle and 0 in the next. An error
 -- that the first leaves is acknowledged by its bit 15, so that the second clears it where neither cause is present; where one is, the error stays, with its
 -- code. By cases on what the first leaves.
-use Rattle.integer.specs.Base.{◌≡◌, Bool, true, false, not, ◌&&◌, ◌||◌, and-true, ℕ}
+use Rattle.std.specs.Prelude.{◌≡◌, Bool, true, false, not, ◌&&◌, ◌||◌, ℕ}
+use Rattle.std.proofs.Math.Bool.{and-true}
 use Rattle.encoder.specs.{InForce}
 use Rattle.cyclic_link.specs.{Life, Link, acknowledges, heard, code, held, Class4.link}
 use Rattle.cyclic_link.proofs.SignOfLifeLaws.{heard-error}

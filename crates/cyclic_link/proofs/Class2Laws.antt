@@ -1,6 +1,12 @@
 -- Class 2: the next link and the preset. The value is a mask of 31 bits, which is a remainder.
 pub use borrow.Author.Rules.{rules}
-use Rattle.integer.specs.Base.{◌≡◌, Bool, true, false, not, ◌&&◌, ◌||◌, ℕ, ◌^◌, ◌<◌, arith, ltb, bit_and, and_mask, ltb-true, w64, to_z, to_z_pos}
+use Rattle.std.specs.Prelude.{◌≡◌, Bool, true, false, not, ◌&&◌, ◌||◌, ℕ, ◌^◌, ◌<◌, ltb}
+use Rattle.std.proofs.Common.{arith, ltb-true}
+use Rattle.std.specs.Int.Bits.{bit_and}
+use Rattle.std.proofs.lemmas.Nat.{and_mask}
+use Rattle.std.specs.Int.{w64}
+use mir.Val.{to_z}
+use Rattle.std.proofs.lemmas.Int.{to_z_pos}
 use Rattle.integer.specs.{bit}
 use Rattle.encoder.specs.{InForce}
 use Rattle.encoder.proofs.{and_split}

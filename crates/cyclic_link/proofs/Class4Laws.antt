@@ -1,5 +1,8 @@
 -- Class 4: the next link, the preset and the status word. The bits of the status word do not overlap, so that `or` is a sum.
-use Rattle.integer.specs.Base.{◌≡◌, ◌∙◌, Bool, true, not, ◌&&◌, ◌||◌, ℕ, ◌+◌, ◌*◌, ◌/◌, ◌%◌, ◌^◌, ◌<◌, arith, eqb, ℤ, w64, SFits, to_z, of_z, bool_byte}
+use Rattle.std.specs.Prelude.{◌≡◌, Bool, true, not, ◌&&◌, ◌||◌, ℕ, ◌+◌, ◌*◌, ◌/◌, ◌%◌, ◌^◌, ◌<◌, eqb, ℤ}
+use Rattle.std.proofs.Common.{◌∙◌, arith}
+use Rattle.std.specs.Int.{w64}
+use mir.Val.{SFits, to_z, of_z, bool_byte}
 use Rattle.integer.specs.{bit}
 use Rattle.integer.proofs.{reads, flag-lt, at-is}
 use Rattle.encoder.specs.{InForce}

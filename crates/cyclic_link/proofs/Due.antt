@@ -1,6 +1,7 @@
 -- Bit 31 that stays up (request 2), by the link alone. A preset that is due stays due through a cycle that is faulty or has a value too large; any other
 -- cycle with the class on makes it; once it is made, no cycle makes one as long as the bit is up. By the tests of the definitions, one after the other.
-use Rattle.integer.specs.Base.{◌≡◌, refl, Bool, true, false, not, ◌&&◌, ◌||◌, ℕ, ◌<◌, leb, leb-true, le-ltb, lt-ltb}
+use Rattle.std.specs.Prelude.{◌≡◌, refl, Bool, true, false, not, ◌&&◌, ◌||◌, ℕ, ◌<◌, leb}
+use Rattle.std.proofs.Common.{leb-true, le-ltb, lt-ltb}
 use Rattle.encoder.specs.{InForce}
 use Rattle.cyclic_link.specs.{Link, Class2.asked, value, Class2.due, Class2.made, Class2.link}
 use mathlib.{Core.Bool.and-false, Core.Bool.or-true}

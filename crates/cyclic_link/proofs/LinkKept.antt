@@ -1,6 +1,8 @@
 -- A cycle keeps the link within its limits (request 3), so that a link of the library's own making never gets 16 on its axis. The counter is counted up to its
 -- stop, an expected value is at most 15, and every code that is held was held before or has its cause in this cycle.
-use Rattle.integer.specs.Base.{◌≡◌, refl, sym, ◌∙◌, Bool, true, false, false≢true, cond, not, ◌&&◌, ◌||◌, ℕ, zero, suc, ◌+◌, ◌-◌, ◌≤◌, min, arith, eqb, leb, leb-true, le-leb, eqb-true, ne_eqb, ℤ}
+use Rattle.std.specs.Prelude.{◌≡◌, refl, Bool, true, false, cond, not, ◌&&◌, ◌||◌, ℕ, zero, suc, ◌+◌, ◌-◌, ◌≤◌, min, eqb, leb, ℤ}
+use Rattle.std.proofs.Common.{sym, ◌∙◌, arith, leb-true, le-leb, eqb-true, ne_eqb}
+use Rattle.std.proofs.lemmas.Bool.{false≢true}
 use Rattle.encoder.specs.{InForce}
 use Rattle.encoder.proofs.{and_split}
 use Rattle.cyclic_link.specs.{Life, Link, Control, quiet, counter, expected, started, following, heard, at_stop, code_by, code, Class2.link as link2, Class4.link as link4}

@@ -1,5 +1,5 @@
 -- Nothing refuses a preset that a cycle makes: class 2 tests its value, and class 4 takes the held value, which is within the limits.
-use Rattle.integer.specs.Base.{Bool, true, false, ◌<◌, ℤ, nat_abs}
+use Rattle.std.specs.Prelude.{Bool, true, false, ◌<◌, ℤ, nat_abs}
 use Rattle.encoder.specs.{InForce}
 use Rattle.cyclic_link.specs.{Life, Link, Control, heard, at_stop, Classes.reaction, Possible}
 use Rattle.cyclic_link.proofs.Class2Laws as Class2

@@ -1,5 +1,7 @@
 -- The sign of life: the failure counter and the expected value after a cycle, by the tests of the code.
-use Rattle.integer.specs.Base.{◌≡◌, refl, ◌∙◌, Bool, true, false, cond, not, ◌&&◌, ◌||◌, false≢true, true≢false, ℕ, ◌+◌, ◌-◌, ◌%◌, min, eqb, eq-eqb, ne_eqb, add-one}
+use Rattle.std.specs.Prelude.{◌≡◌, refl, Bool, true, false, cond, not, ◌&&◌, ◌||◌, ℕ, ◌+◌, ◌-◌, ◌%◌, min, eqb}
+use Rattle.std.proofs.Common.{◌∙◌, true≢false, eq-eqb, ne_eqb, add-one}
+use Rattle.std.proofs.lemmas.Bool.{false≢true}
 use Rattle.cyclic_link.specs.{Life, Link, counter, expected, following, counting, heard}
 
 module _ (stop : ℕ) (k : Link) (v : ℕ) where

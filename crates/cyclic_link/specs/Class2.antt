@@ -1,6 +1,6 @@
 -- What a cycle of class 2 makes of its output word (document 01, "One cycle", its second paragraph). By request 2 a preset that could not be made at once
 -- is due while bit 31 stays up.
-use Rattle.integer.specs.Base.{ℕ, ◌%◌, ◌^◌, Bool, false, not, ◌&&◌, ◌||◌, ltb, pos}
+use Rattle.std.specs.Prelude.{ℕ, ◌%◌, ◌^◌, Bool, false, not, ◌&&◌, ◌||◌, ltb, pos}
 use Rattle.integer.specs.{bit}
 use Rattle.encoder.specs.{InForce}
 use Rattle.cyclic_link.specs.{declared.Link.Link, declared.Preset.Preset, declared.Reaction.Reaction}

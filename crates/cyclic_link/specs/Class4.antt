@@ -1,6 +1,6 @@
 -- What a cycle of class 4 makes of G1_STW, as counted, and G1_ZSW (document 01, "One cycle", the table and the text below it). By request 3 an error has a
 -- code. The link is that once the cycle is counted, and `stopped` tells that its counter stands at its stop.
-use Rattle.integer.specs.Base.{ℕ, ◌+◌, Bool, cond, not, ◌&&◌, ◌||◌, eqb, ℤ}
+use Rattle.std.specs.Prelude.{ℕ, ◌+◌, Bool, cond, not, ◌&&◌, ◌||◌, eqb, ℤ}
 use Rattle.integer.specs.{bit, at}
 use Rattle.encoder.specs.{InForce}
 use Rattle.cyclic_link.specs.{declared.Link.Link, declared.Preset.Preset, declared.Reaction.Reaction}

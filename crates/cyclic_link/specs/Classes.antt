@@ -1,5 +1,5 @@
 -- What a cycle of either class makes of what the control sends: the next link, and the preset (document 01, "One cycle").
-use Rattle.integer.specs.Base.{◌<◌, ◌≡◌, Bool, true, cond, ℤ, nat_abs}
+use Rattle.std.specs.Prelude.{◌<◌, ◌≡◌, Bool, true, cond, ℤ, nat_abs}
 use Rattle.encoder.specs.{InForce}
 use Rattle.cyclic_link.specs.{declared.Link.Link, declared.Life.Life, declared.Control.Control, declared.Preset.Preset, declared.Reaction.Reaction, SignOfLife.heard, SignOfLife.at_stop}
 use Rattle.cyclic_link.specs.Class2 as Class2

@@ -1,5 +1,5 @@
 -- The limits of a link that is brought (request 3; row 16). They ask for the parameters of the axis: a link that one axis has left may get 16 on another.
-use Rattle.integer.specs.Base.{ℕ, Bool, cond, not, ◌&&◌, ◌||◌, eqb, leb}
+use Rattle.std.specs.Prelude.{ℕ, Bool, cond, not, ◌&&◌, ◌||◌, eqb, leb}
 use Rattle.encoder.specs.{no_axis, when}
 use Rattle.cyclic_link.specs.{declared.Link.Link, declared.Life.Life, Class4.sensor_fault, Class4.life_fault}
 

@@ -1,5 +1,5 @@
 -- The link record at the start (document 01, "One cycle", its first paragraph).
-use Rattle.integer.specs.Base.{false}
+use Rattle.std.specs.Prelude.{false}
 use Rattle.cyclic_link.specs.declared.Link.{Link}
 
 -- all 0 at the start

@@ -1,6 +1,6 @@
 -- Request 3: the master's sign of life, on an axis that has one (`sign_of_life`). Bits 12 to 15 of STW2_ENC bring a value in every cycle, which counts 1 to 15 and
 -- then 1 again. Bit 10, park, the class bit and a faulty raw number have no part in this.
-use Rattle.integer.specs.Base.{ℕ, suc, ◌+◌, ◌-◌, ◌*◌, ◌%◌, min, Bool, cond, not, ◌&&◌, ◌||◌, eqb}
+use Rattle.std.specs.Prelude.{ℕ, suc, ◌+◌, ◌-◌, ◌*◌, ◌%◌, min, Bool, cond, not, ◌&&◌, ◌||◌, eqb}
 use Rattle.encoder.specs.{Fields, sign_of_life}
 use Rattle.cyclic_link.specs.{declared.Link.Link, declared.Life.Life}
 

@@ -1,6 +1,6 @@
 // Class 2: bit 31 of the output asks for a preset of bits 0 to 30. One that cannot be made at once stays due while the bit is up
 // (request 2).
-ghost use Rattle.integer.specs.Base.{◌≡◌, ◌<◌, ◌^◌};
+ghost use Rattle.std.specs.Prelude.{◌≡◌, ◌<◌, ◌^◌};
 ghost use Rattle.cyclic_link.specs.Class2 as Class2;
 
 use crate::{Link, Preset, Reaction};

@@ -1,5 +1,5 @@
 // Class 4: the bits of G1_STW, and G1_ZSW.
-ghost use Rattle.integer.specs.Base.{◌≡◌};
+ghost use Rattle.std.specs.Prelude.{◌≡◌};
 ghost use Rattle.cyclic_link.specs.Class4 as Class4;
 
 use crate::{Link, Preset, Reaction};

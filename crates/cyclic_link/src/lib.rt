@@ -6,7 +6,7 @@ pub mod class4;
 mod limits;
 pub mod sign_of_life;
 
-ghost use Rattle.integer.specs.Base.{◌≡◌};
+ghost use Rattle.std.specs.Prelude.{◌≡◌};
 ghost use Rattle.cyclic_link.specs.{quiet, Classes.reaction};
 
 use encoder::effect::InForce;

@@ -1,5 +1,5 @@
 // The limits of a link that is brought (request 3).
-ghost use Rattle.integer.specs.Base.{◌≡◌};
+ghost use Rattle.std.specs.Prelude.{◌≡◌};
 ghost use Rattle.cyclic_link.specs.{code_within, link_refusal};
 
 use crate::class4::{LIFE_FAULT, SENSOR_FAULT};

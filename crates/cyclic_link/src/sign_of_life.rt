@@ -1,5 +1,5 @@
 // The master's sign of life (request 3): a value from 1 to 15 in every cycle, on a class 4 axis with block bit 5 at 0.
-ghost use Rattle.integer.specs.Base.{◌≡◌, min, ◌+◌};
+ghost use Rattle.std.specs.Prelude.{◌≡◌, min, ◌+◌};
 ghost use Rattle.cyclic_link.specs.SignOfLife as SignOfLife;
 
 use crate::{Life, Link};

@@ -1,5 +1,7 @@
 -- The four parts of the diagnosis, one behind the other, fill the buffer. A number of 0 tells that its length is right.
-use Rattle.integer.specs.Base.{◌≡◌, refl, sym, ◌∙◌, true, List, ◌++◌, ℕ, length, eqb-true, put_mid, post_of}
+use Rattle.std.specs.Prelude.{◌≡◌, refl, true, List, ◌++◌, ℕ, length}
+use Rattle.std.proofs.Common.{sym, ◌∙◌, eqb-true}
+use borrow.Rule.Slice.PartMut.{put_mid, post_of}
 use Rattle.integer.specs.{octets}
 use Rattle.integer.proofs.{four-parts}
 use Rattle.encoder.specs.{InForce, Effect, Taken, fields_of}

@@ -1,5 +1,5 @@
 // The four parts of the diagnosis, each in its own stretch of the buffer.
-ghost use Rattle.integer.specs.Base.{◌≡◌, length};
+ghost use Rattle.std.specs.Prelude.{◌≡◌, length};
 ghost use Rattle.encoder.specs.{fields_of};
 ghost use Rattle.axis.specs.{Ready};
 ghost use Rattle.diagnosis.specs.{operating_octet, general, versions, four_numbers, values, identity};

@@ -1,5 +1,5 @@
 -- Every row of the table of combinations is what the definitions put in force: one list, one claim, computed.
-use Rattle.integer.specs.Base.{◌≡◌, refl, map}
+use Rattle.std.specs.Prelude.{◌≡◌, refl, map}
 use Rattle.encoder.specs.{plate_refusal, fields_refusal, refusal_on, rules_of, in_force, Combination, plate, combinations}
 
 pub as-stated : map (λ (c : Combination). in_force plate c.sent) combinations ≡ map (λ (c : Combination). c.stated) combinations

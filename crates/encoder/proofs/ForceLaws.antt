@@ -1,5 +1,8 @@
 -- What is in force, with scaling on and off. Accepted parameters have a plate within its limits, as the callees require.
-use Rattle.integer.specs.Base.{◌≡◌, refl, sym, ◌∙◌, Bool, true, false, ℕ, zero, suc, arith, w32, Fits}
+use Rattle.std.specs.Prelude.{◌≡◌, refl, Bool, true, false, ℕ, zero, suc}
+use Rattle.std.proofs.Common.{sym, ◌∙◌, arith}
+use Rattle.std.specs.Int.{w32}
+use mir.Val.{Fits}
 use Rattle.encoder.specs.{Steps, Nameplate, Parameters, Fields, InForce, Effect, Taken, Refused, answer, plate_refusal, capacity_of, class_on, scaling_on}
 use Rattle.encoder.specs.{reversed_by, fields_of, refusal_on, rules_of, in_force}
 use Rattle.encoder.proofs.{RefusalLaws.exits, RefusalLaws.before-none, PlateLaws.plated}

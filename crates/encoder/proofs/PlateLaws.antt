@@ -1,6 +1,10 @@
 -- What holds of a nameplate that is not refused: its bounds, one by one, the due length of a lent buffer, and that its capacity fits.
 pub use borrow.Author.Rules.{rules}
-use Rattle.integer.specs.Base.{◌≡◌, refl, Bool, true, false, ◌&&◌, not, false≢true, ℕ, ◌*◌, ◌^◌, ◌≤◌, arith, eqb, leb-true, eqb-true, w64, w32, Fits}
+use Rattle.std.specs.Prelude.{◌≡◌, refl, Bool, true, false, ◌&&◌, not, ℕ, ◌*◌, ◌^◌, ◌≤◌, eqb}
+use Rattle.std.proofs.Common.{arith, leb-true, eqb-true}
+use Rattle.std.proofs.lemmas.Bool.{false≢true}
+use Rattle.std.specs.Int.{w64, w32}
+use mir.Val.{Fits}
 use Rattle.encoder.specs.{Nameplate, wrong_buffer, when, plate_refusal, buffer_refusal, capacity_of}
 use Rattle.encoder.proofs.RefusalLaws.{before-none, when-none}
 use native.Mathlib.Nat as N

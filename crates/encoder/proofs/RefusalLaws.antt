@@ -1,5 +1,7 @@
 -- The general laws of refusals: an answer or a kept buffer by its number, and what a number of 0 tells of the tests.
-use Rattle.integer.specs.Base.{ℕ, zero, suc, ◌≡◌, refl, sym, ◌∙◌, Bool, true, false, not, arith, not-false}
+use Rattle.std.specs.Prelude.{ℕ, zero, suc, ◌≡◌, refl, Bool, true, false, not}
+use Rattle.std.proofs.Common.{sym, ◌∙◌, arith}
+use Rattle.std.proofs.lemmas.Bool.{not-false}
 use Rattle.encoder.specs.{when, ◌before◌, answer}
 
 pub refused-is : {A : Type 0} (refused : ℕ → A) (taken : A) (k : ℕ) → (k ≡ 0 → ⊥) → answer refused taken k ≡ refused k

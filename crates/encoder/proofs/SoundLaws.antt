@@ -1,5 +1,7 @@
 -- Accepted parameters put rules within the limits in force: M and L by rows 4 and 5 with scaling on, and by the nameplate without.
-use Rattle.integer.specs.Base.{◌≡◌, refl, Bool, true, false, ◌||◌, true≢false, ◌*◌, ◌^◌, ◌≤◌, arith, leb-true, le-leb, ltb-false, eqb-false}
+use Rattle.std.specs.Prelude.{◌≡◌, refl, Bool, true, false, ◌||◌, ◌*◌, ◌^◌, ◌≤◌}
+use Rattle.std.proofs.Common.{true≢false, arith, leb-true, le-leb, ltb-false}
+use Rattle.std.proofs.lemmas.Bool.{eqb-false}
 use Rattle.encoder.specs.{Nameplate, Parameters, Fields, InForce, reserved_bit, revolution_units, total_range, when, plate_refusal, capacity_of, scaling_on}
 use Rattle.encoder.specs.{reserved_wrong, fields_of, units_wrong, range_wrong, fields_refusal, refusal_on, scale_of, span_of, rules_of, rules_fit, Sound}
 use Rattle.encoder.proofs.{RefusalLaws.before-none, RefusalLaws.when-not, PlateLaws.and_split, PlateLaws.plated, PlateLaws.capacity-most}

@@ -1,7 +1,7 @@
 -- Class bit, scaling bit and code sequence bit in every combination, as a table to hold against document 01: "Scaling is in force when the
 -- class bit and the scaling bit are both 1. Then M is the revolution units and L the total range. Otherwise M = R and L = C [..]. With the
 -- class bit 0 no preset is made; class 2 still obeys the code sequence, class 4 does not."
-use Rattle.integer.specs.Base.{ℕ, Bool, true, false, List, [], ◌∷◌}
+use Rattle.std.specs.Prelude.{ℕ, Bool, true, false, List, [], ◌∷◌}
 use Rattle.encoder.specs.{declared.nameplate.Nameplate.Nameplate, declared.parameters.Parameters.Parameters}
 use Rattle.encoder.specs.{declared.parameters.Parameters.TheVariants.Class2, declared.parameters.Parameters.TheVariants.Class4}
 use Rattle.encoder.specs.{declared.effect.Effect.Effect, declared.effect.Effect.TheVariants.Taken, Plate.plain_plate}

@@ -1,5 +1,5 @@
 -- What plate and parameters put in force (document 01, end of "Class 4 block").
-use Rattle.integer.specs.Base.{ℕ, ◌^◌, ◌≤◌, Bool, cond, ◌&&◌, leb}
+use Rattle.std.specs.Prelude.{ℕ, ◌^◌, ◌≤◌, Bool, cond, ◌&&◌, leb}
 use Rattle.encoder.specs.{declared.nameplate.Nameplate.Nameplate, declared.parameters.Parameters.Parameters, declared.parameters.Fields.Fields}
 use Rattle.encoder.specs.{declared.effect.InForce.InForce, declared.effect.Effect.Effect, declared.effect.Effect.TheVariants.Taken}
 use Rattle.encoder.specs.{declared.effect.Effect.TheVariants.Refused, Refusal.answer, Plate.capacity_of, Operating.class_on, Operating.scaling_on}

@@ -1,6 +1,6 @@
 -- The octet of operating parameters, octet 9 of class 2 and octet 1 of class 4 (document 01, "Class 2 telegram", "Class 4 block"; row 3 of
 -- "When a call is turned away"). Bit 2, and bit 4 of class 4, have no part in what is in force.
-use Rattle.integer.specs.Base.{ℕ, Bool, not, ◌&&◌, ◌||◌}
+use Rattle.std.specs.Prelude.{ℕ, Bool, not, ◌&&◌, ◌||◌}
 use Rattle.integer.specs.{bit}
 
 -- bit 1: the class is on

@@ -1,5 +1,5 @@
 -- The nameplate (document 01, "Plate and reading"; row 7 of "When a call is turned away").
-use Rattle.integer.specs.Base.{ℕ, ◌*◌, not, ◌&&◌, leb, eqb, replicate}
+use Rattle.std.specs.Prelude.{ℕ, ◌*◌, not, ◌&&◌, leb, eqb, replicate}
 use Rattle.encoder.specs.{declared.nameplate.Nameplate.Nameplate, Refusal.wrong_plate, Refusal.wrong_buffer, Refusal.when, Refusal.◌before◌}
 
 -- 7, unless R is 2 to 65,536 and T is 1 to 32,768; the other fields may be anything

@@ -1,5 +1,5 @@
 -- The numbers of the refusals, named with the trade's words (document 01, "When a call is turned away"), their order, and the answer by a number.
-use Rattle.integer.specs.Base.{ℕ, zero, suc, Bool, true, false}
+use Rattle.std.specs.Prelude.{ℕ, zero, suc, Bool, true, false}
 
 -- length: telegram not 17 octets, block not 11
 abbrev pub wrong_length : ℕ

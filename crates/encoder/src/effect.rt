@@ -1,5 +1,5 @@
 // What plate and parameters put in force (document 01, "Class 4 block", its last paragraph).
-ghost use Rattle.integer.specs.Base.{◌≡◌};
+ghost use Rattle.std.specs.Prelude.{◌≡◌};
 ghost use Rattle.encoder.specs.{in_force};
 
 use crate::nameplate::Nameplate;

@@ -1,5 +1,5 @@
 // The nameplate of a device (document 01, "Plate and reading").
-ghost use Rattle.integer.specs.Base.{◌≡◌, ◌≤◌, ◌^◌};
+ghost use Rattle.std.specs.Prelude.{◌≡◌, ◌≤◌, ◌^◌};
 ghost use Rattle.encoder.specs.{plate_refusal, buffer_refusal, capacity_of, plain_plate};
 
 use crate::quantity::{Steps, Turns};

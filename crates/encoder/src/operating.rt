@@ -1,5 +1,5 @@
 // The octet of operating parameters: octet 9 of a class 2 telegram, octet 1 of a class 4 block.
-ghost use Rattle.integer.specs.Base.{◌≡◌};
+ghost use Rattle.std.specs.Prelude.{◌≡◌};
 ghost use Rattle.encoder.specs.{class_on, scaling_on, reversed_by, reserved_wrong};
 
 use octets::bit;

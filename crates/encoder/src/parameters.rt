@@ -1,5 +1,5 @@
 // The parameters of both classes, kept as sent, and their refusals (document 01, "Class 2 telegram" and "Class 4 block").
-ghost use Rattle.integer.specs.Base.{◌≡◌};
+ghost use Rattle.std.specs.Prelude.{◌≡◌};
 ghost use Rattle.encoder.specs.{fields_of, sign_of_life, fields_refusal, refusal_on};
 
 use crate::nameplate::Nameplate;

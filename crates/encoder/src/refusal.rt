@@ -1,5 +1,5 @@
 // The numbers of the refusals, named with the trade's words (document 01, "When a call is turned away"), and their order.
-ghost use Rattle.integer.specs.Base.{◌≡◌};
+ghost use Rattle.std.specs.Prelude.{◌≡◌};
 ghost use Rattle.encoder.specs.{when, ◌before◌};
 
 // Telegram not 17 octets, block not 11.

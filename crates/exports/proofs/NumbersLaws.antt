@@ -1,6 +1,7 @@
 -- Parameters as numbers in a lent list: what a reader answers fills it, or is the refusal.
 pub use borrow.Author.Rules.{rules}
-use Rattle.integer.specs.Base.{◌≡◌, refl, sym, ◌∙◌, List, [], ◌∷◌, ℕ, zero, suc, length, set}
+use Rattle.std.specs.Prelude.{◌≡◌, refl, List, [], ◌∷◌, ℕ, zero, suc, length, set}
+use Rattle.std.proofs.Common.{sym, ◌∙◌}
 use Rattle.integer.proofs.{known}
 use Rattle.encoder.specs.{Nameplate, Parameters, answer, buffer_refusal}
 use Rattle.encoder.proofs.{answer-no, answer-yes, buffer-passed}

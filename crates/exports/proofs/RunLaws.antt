@@ -1,5 +1,6 @@
 -- A batch from its start on: the first refusal of plate, length, start and batch is the answer.
-use Rattle.integer.specs.Base.{◌≡◌, refl, ◌∙◌, List, ℕ, zero, suc, length}
+use Rattle.std.specs.Prelude.{◌≡◌, refl, List, ℕ, zero, suc, length}
+use Rattle.std.proofs.Common.{◌∙◌}
 use Rattle.encoder.specs.{Nameplate, Parameters, answer, buffer_refusal}
 use Rattle.encoder.proofs.{first-no, number_is}
 use Rattle.axis.specs.{Axis, Next, next, start_raw}

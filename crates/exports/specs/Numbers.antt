@@ -1,5 +1,5 @@
 -- Parameters as plain numbers, as other languages bring and take them.
-use Rattle.integer.specs.Base.{ℕ, ◌≡◌, cond, List, [], ◌∷◌, eqb, length}
+use Rattle.std.specs.Prelude.{ℕ, ◌≡◌, cond, List, [], ◌∷◌, eqb, length}
 use Rattle.encoder.specs.{Nameplate, Parameters, Class2, Class4, answer, buffer_refusal}
 use Rattle.parameters_reader.specs.{Received, Taken, Refused}
 

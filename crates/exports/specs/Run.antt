@@ -1,5 +1,5 @@
 -- A batch from its start on, in one call.
-use Rattle.integer.specs.Base.{ℕ, List, length}
+use Rattle.std.specs.Prelude.{ℕ, List, length}
 use Rattle.encoder.specs.{Nameplate, Parameters, ◌before◌, answer, buffer_refusal}
 use Rattle.axis.specs.{start_raw}
 use Rattle.axis_batch.specs.{batch, batch_list}

@@ -6,7 +6,7 @@
 mod run;
 mod take;
 
-ghost use Rattle.integer.specs.Base.{◌≡◌};
+ghost use Rattle.std.specs.Prelude.{◌≡◌};
 ghost use Rattle.encoder.specs.{plain_plate};
 ghost use Rattle.parameters_reader.specs.{read_telegram, read_block};
 ghost use Rattle.exports.specs.{parameters_of, take_refusal, taken, run_refusal, ran};

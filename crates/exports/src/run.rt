@@ -1,5 +1,5 @@
 // A batch from its start on.
-ghost use Rattle.integer.specs.Base.{◌≡◌};
+ghost use Rattle.std.specs.Prelude.{◌≡◌};
 ghost use Rattle.exports.specs.{run_refusal, ran};
 
 use axis::Axis;

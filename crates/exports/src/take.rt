@@ -1,5 +1,5 @@
 // What a reader has received, as numbers in a lent list.
-ghost use Rattle.integer.specs.Base.{◌≡◌, [], ◌∷◌, length};
+ghost use Rattle.std.specs.Prelude.{◌≡◌, [], ◌∷◌, length};
 ghost use Rattle.exports.specs.{numbers_of, Fills, readers_refusal, take_refusal, numbers_in, taken};
 
 use encoder::nameplate::Nameplate;

@@ -1,7 +1,8 @@
 -- THE THEOREM for C (document 01, "The distance rule"): what is claimed of every function in specs/Exported.antt holds of encoder_batch. A start and a
 -- batch after it are one list of calls, and the accuracy theorem holds of every list. The answer is the table's, since an axis that was started is
 -- within its limits.
-use Rattle.integer.specs.Base.{◌≡◌, refl, sym, ap, ◌∙◌, not, List, [], ◌∷◌, ℕ, zero, suc, eqb, ℤ, length}
+use Rattle.std.specs.Prelude.{◌≡◌, refl, not, List, [], ◌∷◌, ℕ, zero, suc, eqb, ℤ, length}
+use Rattle.std.proofs.Common.{sym, ap, ◌∙◌}
 use Rattle.encoder.specs.{wrong_buffer, when, ◌before◌, plate_refusal}
 use Rattle.encoder.proofs.{before-assoc, before-none}
 use Rattle.axis_shaft.specs.{started}

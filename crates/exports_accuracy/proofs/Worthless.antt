@@ -1,6 +1,7 @@
 -- Worthless functions break the claim, each on the axis of document 01's listing: first at raw number 28, then at 4 and 10, 6 steps on each time. Exact is
 -- 10.2 and 12, which on the ring of 7 is 3.2 and 5, and no position is within a unit of both. And the table takes this call.
-use Rattle.integer.specs.Base.{◌≡◌, refl, ◌∙◌, [], ◌∷◌, ℕ, arith, ℤ, pos, get_or}
+use Rattle.std.specs.Prelude.{◌≡◌, refl, [], ◌∷◌, ℕ, ℤ, pos, get_or}
+use Rattle.std.proofs.Common.{◌∙◌, arith}
 use Rattle.integer.specs.{◌modulo◌}
 use Rattle.encoder.specs.{plate_refusal, fields_refusal, refusal_on, rules_of}
 use Rattle.axis_shaft.specs.{oriented, difference, move_refusal, refusal_in}

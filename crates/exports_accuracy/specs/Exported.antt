@@ -9,7 +9,7 @@
 --
 -- The claim is of any function that C could call so, and sees only its answer and the list that it leaves. Worthless.antt in proofs/
 -- refutes functions that show one position throughout or turn every call away, and Exported.antt proves the claim of ours.
-use Rattle.integer.specs.Base.{◌≡◌, not, List, ℕ, eqb, ℤ, length}
+use Rattle.std.specs.Prelude.{◌≡◌, not, List, ℕ, eqb, ℤ, length}
 use Rattle.encoder.specs.{wrong_buffer, when, ◌before◌, plate_refusal, plain_plate}
 use Rattle.accuracy.specs.{first_number, batching, Device, start_by, opened, refusal_by, Supposed, Entries}
 use Rattle.exports.specs.{parameters_of, run_refusal, ran}

@@ -1,5 +1,5 @@
 -- Functions that document 01 would send back ("Programs we would send back"). Each breaks the claim: proofs/Worthless.antt.
-use Rattle.integer.specs.Base.{ℕ, length, get_or, replicate}
+use Rattle.std.specs.Prelude.{ℕ, length, get_or, replicate}
 use Rattle.exports_accuracy.specs.Exported.{Arguments, Function, encoder_batch}
 
 -- answers as ours, and shows one position throughout

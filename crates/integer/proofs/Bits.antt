@@ -1,5 +1,7 @@
 -- A flag as a number, 0 or 1, and as one bit of a word.
-use Rattle.integer.specs.Base.{◌≡◌, refl, Bool, true, false, cond, ℕ, ◌*◌, ◌^◌, ◌<◌, arith, bool_byte}
+use Rattle.std.specs.Prelude.{◌≡◌, refl, Bool, true, false, cond, ℕ, ◌*◌, ◌^◌, ◌<◌}
+use Rattle.std.proofs.Common.{arith}
+use mir.Val.{bool_byte}
 use Rattle.integer.specs.{at}
 
 pub flag : (b : Bool) → bool_byte b ≡ cond b 1 0

@@ -1,5 +1,6 @@
 -- A clamped number lies between the limits. By cases on the two tests.
-use Rattle.integer.specs.Base.{◌≡◌, refl, Bool, true, false, ℤ, ◌≤ℤ◌, lt_z}
+use Rattle.std.specs.Prelude.{◌≡◌, refl, Bool, true, false, ℤ, ◌≤ℤ◌}
+use Rattle.std.specs.Int.Signed.{lt_z}
 use Rattle.integer.specs.{clamp}
 use Rattle.integer.proofs.Signed.{signed}
 

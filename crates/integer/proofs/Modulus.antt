@@ -1,5 +1,6 @@
 -- The remainder rounded down: z and z modulo n differ by a multiple of n, and no other number below n does.
-use Rattle.integer.specs.Base.{◌≡◌, sym, ap, ◌∙◌, ℕ, suc, ◌+◌, ◌*◌, ◌/◌, ◌%◌, ◌<◌, arith, ℤ, pos, negsuc}
+use Rattle.std.specs.Prelude.{◌≡◌, ℕ, suc, ◌+◌, ◌*◌, ◌/◌, ◌%◌, ◌<◌, ℤ, pos, negsuc}
+use Rattle.std.proofs.Common.{sym, ap, ◌∙◌, arith}
 use Rattle.integer.specs.{◌modulo◌}
 use Rattle.integer.proofs.Signed.{above, below}
 use lib.{Arith.digits_mod}

@@ -1,7 +1,13 @@
 -- Lists of a known length, and numbers as octets: the laws hold for every number of octets.
-use Rattle.integer.specs.Base.{◌≡◌, refl, sym, ap, ◌∙◌, List, [], ◌∷◌, ◌++◌, append_assoc, append-nil, ℕ, zero, suc, ◌+◌, ◌*◌, ◌/◌, ◌%◌, ◌^◌, ◌<◌, ◌≤◌, arith}
-use Rattle.integer.specs.Base.{add-one, w8, Fits, length, get_or, take, drop, length-append, length-take, length-drop, length-take-le, take_at, drop_at}
-use Rattle.integer.specs.Base.{drop-drop, drop-length, put_mid, post_of}
+use Rattle.std.specs.Prelude.{◌≡◌, refl, List, [], ◌∷◌, ◌++◌, ℕ, zero, suc, ◌+◌, ◌*◌, ◌/◌, ◌%◌, ◌^◌, ◌<◌, ◌≤◌}
+use Rattle.std.proofs.Common.{sym, ap, ◌∙◌, append_assoc, append-nil, arith}
+use Rattle.std.specs.Prelude.{length, get_or, take, drop}
+use Rattle.std.proofs.Common.{add-one, length-append, length-take, length-drop, length-take-le, take_at, drop_at}
+use Rattle.std.specs.Int.{w8}
+use mir.Val.{Fits}
+use Rattle.std.proofs.Common.{drop-drop}
+use Rattle.std.proofs.Math.Seq.{drop-length}
+use borrow.Rule.Slice.PartMut.{put_mid, post_of}
 use Rattle.integer.specs.{big_endian, octets}
 use lib.{Seq.get_or-drop}
 use native.Mathlib.Nat as N

@@ -1,5 +1,6 @@
 -- Quotient and remainder rounded down: z is k × n and r, r below n, with one k and one r alone. So z around m × n is k around m, times n, and r.
-use Rattle.integer.specs.Base.{◌≡◌, ap, ℕ, ◌+◌, ◌*◌, ◌≤◌, ◌<◌, arith, ℤ, pos, negsuc, nat_abs}
+use Rattle.std.specs.Prelude.{◌≡◌, ℕ, ◌+◌, ◌*◌, ◌≤◌, ◌<◌, ℤ, pos, negsuc, nat_abs}
+use Rattle.std.proofs.Common.{ap, arith}
 use Rattle.integer.specs.{◌modulo◌, ◌quotient◌}
 use Rattle.integer.proofs.{Signed.above, Signed.below, Signed.signed, Modulus.modulo-lt, Modulus.modulo-has, Modulus.modulo-is}
 use lib.{Arith.digits_lt}

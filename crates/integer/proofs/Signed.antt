@@ -1,8 +1,13 @@
 -- Facts of ℤ by `omega`. An integer is two naturals, how far it lies above 0 and how far below. Each operation has one equation, linear in
 -- these; each order and equation of ℤ is one of naturals. So `omega (signed, add_is x y, ..)` proves statements of ℤ: list the equation of each
 -- compound term.
-use Rattle.integer.specs.Base.{◌≡◌, refl, sym, ap, Bool, true, false, not, cond, ℕ, zero, suc, ◌+◌, ◌*◌, ◌-◌, ◌<◌, ◌≤◌, min, arith, T, ltb, ℤ, pos, negsuc}
-use Rattle.integer.specs.Base.{neg_ℤ, ◌+ℤ◌, ◌-ℤ◌, ◌*ℤ◌, ◌≤ℤ◌, ◌<ℤ◌, lt_z, Width, SFits, to_z, of_z, to_z-of_z}
+use Rattle.std.specs.Prelude.{◌≡◌, refl, Bool, true, false, not, cond, ℕ, zero, suc, ◌+◌, ◌*◌, ◌-◌, ◌<◌, ◌≤◌, min, T, ltb, ℤ, pos, negsuc}
+use Rattle.std.proofs.Common.{sym, ap, arith}
+use Rattle.std.specs.Prelude.{neg_ℤ, ◌+ℤ◌, ◌-ℤ◌, ◌*ℤ◌, ◌≤ℤ◌, ◌<ℤ◌}
+use Rattle.std.specs.Int.Signed.{lt_z}
+use Rattle.std.specs.Int.{Width}
+use mir.Val.{SFits, to_z, of_z}
+use Rattle.std.proofs.lemmas.Int.{to_z-of_z}
 use lib.{Dec.ltb→lt, Dec.nltb→le, Dec.lt→ltb, Dec.le→leb, Dec.leb→le, IntN.sub_ℕ, Signed.lt_z_no}
 use mathlib.{Core.Path.subst}
 use native.Mathlib.Nat as N

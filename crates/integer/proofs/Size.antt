@@ -1,6 +1,10 @@
 -- The size |z| of differences, products and quotients. A number of small enough size fits its type.
-use Rattle.integer.specs.Base.{◌≡◌, refl, ◌∙◌, ℕ, suc, ◌+◌, ◌*◌, ◌/◌, ◌<◌, ◌≤◌, ◌^◌, arith, T, ℤ, pos, negsuc, neg_ℤ, nat_abs, ◌+ℤ◌, ◌-ℤ◌, ◌*ℤ◌, non_neg, quot_z}
-use Rattle.integer.specs.Base.{Width, w64, Fits, SFits, to_z, of_z, to_z-of_z, to_z_pos}
+use Rattle.std.specs.Prelude.{◌≡◌, refl, ℕ, suc, ◌+◌, ◌*◌, ◌/◌, ◌<◌, ◌≤◌, ◌^◌, T, ℤ, pos, negsuc, neg_ℤ, nat_abs, ◌+ℤ◌, ◌-ℤ◌, ◌*ℤ◌}
+use Rattle.std.proofs.Common.{◌∙◌, arith}
+use Rattle.std.specs.Int.Signed.{non_neg, quot_z}
+use Rattle.std.specs.Int.{Width, w64}
+use mir.Val.{Fits, SFits, to_z, of_z}
+use Rattle.std.proofs.lemmas.Int.{to_z-of_z, to_z_pos}
 use Rattle.integer.proofs.Signed.{above, below, apart, neg_is, add_is, diff_is}
 use mir.{Val.bits, Val.hbits}
 use native.Mathlib.Nat as N

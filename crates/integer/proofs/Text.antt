@@ -1,6 +1,9 @@
 -- A text stands at the start of a buffer, and `bytes::copy` writes another one behind it: then both stand at the start, and the rest is as it was.
-use Rattle.integer.specs.Base.{◌≡◌, refl, sym, ◌∙◌, List, [], ◌∷◌, ◌++◌, append_assoc, ℕ, zero, suc, ◌≤◌, arith, length, take, drop, length-append}
-use Rattle.integer.specs.Base.{take-length, take_at, drop_at, drop-drop, length-take-le, put_mid, same_len_mid}
+use Rattle.std.specs.Prelude.{◌≡◌, refl, List, [], ◌∷◌, ◌++◌, ℕ, zero, suc, ◌≤◌, length, take, drop}
+use Rattle.std.proofs.Common.{sym, ◌∙◌, append_assoc, arith, length-append}
+use Rattle.std.proofs.Common.{take_at, drop_at, drop-drop, length-take-le}
+use Rattle.std.proofs.Math.Seq.{take-length}
+use borrow.Rule.Slice.PartMut.{put_mid, same_len_mid}
 use Rattle.integer.specs.{over}
 use lib.{ListN.take-append-drop}
 

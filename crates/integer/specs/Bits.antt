@@ -1,5 +1,5 @@
 -- Bits of a word, bit 0 the least significant (document 01, its opening lines).
-use Rattle.integer.specs.Base.{ℕ, ◌/◌, ◌%◌, ◌^◌, Bool, cond, eqb}
+use Rattle.std.specs.Prelude.{ℕ, ◌/◌, ◌%◌, ◌^◌, Bool, cond, eqb}
 
 -- bit n of w is 1
 abbrev pub bit : ℕ → ℕ → Bool

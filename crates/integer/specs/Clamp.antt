@@ -1,5 +1,6 @@
 -- A number limited at both ends (document 01: "limited to signed 32 bits").
-use Rattle.integer.specs.Base.{cond, ℤ, lt_z}
+use Rattle.std.specs.Prelude.{cond, ℤ}
+use Rattle.std.specs.Int.Signed.{lt_z}
 
 -- the number from low to high that is nearest to z
 unfoldable pub clamp : ℤ → ℤ → ℤ → ℤ

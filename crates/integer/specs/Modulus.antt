@@ -1,5 +1,5 @@
 -- The remainder and the quotient of an integer, rounded down (document 01: "modulo", "towards minus infinity").
-use Rattle.integer.specs.Base.{ℕ, suc, ◌-◌, ◌/◌, ◌%◌, ℤ, pos, negsuc}
+use Rattle.std.specs.Prelude.{ℕ, suc, ◌-◌, ◌/◌, ◌%◌, ℤ, pos, negsuc}
 
 -- z modulo n: from 0 to n - 1, for either sign of z
 infixl 70 ◌modulo◌

@@ -1,5 +1,5 @@
 -- Octets are counted from 1, and numbers of several octets have the most significant first (document 01, its opening lines).
-use Rattle.integer.specs.Base.{ℕ, zero, suc, ◌+◌, ◌-◌, ◌*◌, ◌/◌, ◌%◌, ◌^◌, List, [], ◌∷◌, ◌++◌, length, get_or, take, drop}
+use Rattle.std.specs.Prelude.{ℕ, zero, suc, ◌+◌, ◌-◌, ◌*◌, ◌/◌, ◌%◌, ◌^◌, List, [], ◌∷◌, ◌++◌, length, get_or, take, drop}
 
 -- octet k of a telegram
 abbrev pub octet : ℕ → List ℕ → ℕ

@@ -1,7 +1,14 @@
 -- What the loops over octets keep: at the start, one octet further and at the end. And what a bit is.
 pub use borrow.Author.Rules.{rules}
-use Rattle.integer.specs.Base.{◌≡◌, refl, false, List, [], ◌++◌, append_assoc, append-nil, ℕ, zero, suc, ◌+◌, ◌-◌, ◌*◌, ◌/◌, ◌%◌, ◌^◌, ◌<◌, ◌≤◌, arith, add-one, w8}
-use Rattle.integer.specs.Base.{Fits, bit_and, and_mask, length, get_or, take, drop, set, take_all, drop-cons, drop-length}
+use Rattle.std.specs.Prelude.{◌≡◌, refl, false, List, [], ◌++◌, ℕ, zero, suc, ◌+◌, ◌-◌, ◌*◌, ◌/◌, ◌%◌, ◌^◌, ◌<◌, ◌≤◌}
+use Rattle.std.proofs.Common.{append_assoc, append-nil, arith, add-one}
+use Rattle.std.specs.Int.{w8}
+use Rattle.std.specs.Prelude.{length, get_or, take, drop, set}
+use Rattle.std.proofs.Common.{take_all, drop-cons}
+use Rattle.std.proofs.Math.Seq.{drop-length}
+use Rattle.std.specs.Int.Bits.{bit_and}
+use Rattle.std.proofs.lemmas.Nat.{and_mask}
+use mir.Val.{Fits}
 use Rattle.integer.specs.{big_endian, octets, bit}
 use Rattle.integer.proofs.{big_endian-snoc}
 use lib.{Seq.take-suc, Seq.drop-set-lt, Seq.get_or-set_same, Seq.lt-length-set}

@@ -1,7 +1,7 @@
 // Octets and bits: one reader and one writer of numbers, the most significant octet first, and one test of a bit.
 #![tactic(auto)]
 
-ghost use Rattle.integer.specs.Base.{◌≡◌, ◌%◌, ◌^◌, length};
+ghost use Rattle.std.specs.Prelude.{◌≡◌, ◌%◌, ◌^◌, length};
 ghost use Rattle.integer.specs.{big_endian, octets, bit};
 
 // The number of the octets. Of more than four octets only the last four count.

@@ -1,6 +1,7 @@
 -- What a reader has tested before it reads an octet, and what it finds in the octets: the ident and the parameters.
 pub use borrow.Author.Rules.{rules}
-use Rattle.integer.specs.Base.{◌≡◌, sym, ap, ◌∙◌, not, List, ℕ, ◌%◌, ◌^◌, arith, eqb, length, get_or, take, drop, eqb-true}
+use Rattle.std.specs.Prelude.{◌≡◌, not, List, ℕ, ◌%◌, ◌^◌, eqb, length, get_or, take, drop}
+use Rattle.std.proofs.Common.{sym, ap, ◌∙◌, arith, eqb-true}
 use Rattle.integer.specs.{big_endian}
 use Rattle.integer.proofs.{known, Octets.Octets, big_endian-part}
 use Rattle.encoder.specs.{Nameplate, Parameters, Class2, Class4, other_ident, when, ◌before◌, plate_refusal, parameters_refusal, refusal_on}

@@ -1,5 +1,5 @@
 -- The readers of both classes (document 01, "Class 2 telegram", "Class 4 block"; rows 1, 2 and 7 of "When a call is turned away").
-use Rattle.integer.specs.Base.{ℕ, not, List, eqb, length}
+use Rattle.std.specs.Prelude.{ℕ, not, List, eqb, length}
 use Rattle.integer.specs.{octet, part, big_endian}
 use Rattle.encoder.specs.{Nameplate, Parameters, Class2, Class4, wrong_length, other_ident, when, ◌before◌, answer, plate_refusal, parameters_refusal}
 use Rattle.parameters_reader.specs.{declared.Received.Received, declared.Received.TheVariants.Taken, declared.Received.TheVariants.Refused}

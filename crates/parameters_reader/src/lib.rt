@@ -1,7 +1,7 @@
 // The readers of both classes (document 01, "Class 2 telegram" and "Class 4 block").
 #![tactic(auto)]
 
-ghost use Rattle.integer.specs.Base.{◌≡◌, length};
+ghost use Rattle.std.specs.Prelude.{◌≡◌, length};
 ghost use Rattle.encoder.specs.{◌before◌, plate_refusal, parameters_refusal};
 ghost use Rattle.parameters_reader.specs.{received, frame_refusal, ident_refusal, telegram_parameters, read_telegram, block_parameters, read_block};
 

@@ -1,6 +1,7 @@
 -- Parameters that the writer takes, written into any buffer of their class's length, read back as the same parameters on the same
 -- nameplate: one theorem for both classes. The buffer's length is known, so that its octets compute, and a number stands in its octets.
-use Rattle.integer.specs.Base.{◌≡◌, refl, ap, ◌∙◌, List, ℕ, zero, suc, ◌^◌, ◌<◌, arith, length, eq-eqb}
+use Rattle.std.specs.Prelude.{◌≡◌, refl, List, ℕ, zero, suc, ◌^◌, ◌<◌, length}
+use Rattle.std.proofs.Common.{ap, ◌∙◌, arith, eq-eqb}
 use Rattle.integer.specs.{octets}
 use Rattle.integer.proofs.{known, big_endian-octets}
 use Rattle.encoder.specs.{Units, Nameplate, Parameters, Class2, Class4, answer, plate_refusal, parameters_refusal}

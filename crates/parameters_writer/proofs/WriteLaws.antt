@@ -1,6 +1,8 @@
 -- What the writer leaves in the buffer, and what it has tested before.
 pub use borrow.Author.Rules.{rules}
-use Rattle.integer.specs.Base.{◌≡◌, sym, ◌∙◌, not, List, ℕ, eqb, length, take, drop, set, put_mid}
+use Rattle.std.specs.Prelude.{◌≡◌, not, List, ℕ, eqb, length, take, drop, set}
+use Rattle.std.proofs.Common.{sym, ◌∙◌}
+use borrow.Rule.Slice.PartMut.{put_mid}
 use Rattle.integer.specs.{octets}
 use Rattle.integer.proofs.{known}
 use Rattle.encoder.specs.{Units, Nameplate, Parameters, wrong_buffer, when, ◌before◌, plate_refusal, buffer_refusal, parameters_refusal, refusal_on}

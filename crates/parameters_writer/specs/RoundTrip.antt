@@ -1,5 +1,5 @@
 -- The round trip, for both classes (demand 2: parameters written as octets read back as the same parameters).
-use Rattle.integer.specs.Base.{ℕ, ◌^◌, ◌<◌, List}
+use Rattle.std.specs.Prelude.{ℕ, ◌^◌, ◌<◌, List}
 use Rattle.encoder.specs.{Nameplate, Parameters, Class2, Class4, fields_of}
 use Rattle.parameters_reader.specs.{Received, read_telegram, read_block}
 

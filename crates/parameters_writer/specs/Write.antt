@@ -1,5 +1,5 @@
 -- The writer of both classes (document 01, "Class 2 telegram", "Class 4 block"; row 13 of "When a call is turned away").
-use Rattle.integer.specs.Base.{ℕ, List, [], ◌∷◌, ◌++◌, length}
+use Rattle.std.specs.Prelude.{ℕ, List, [], ◌∷◌, ◌++◌, length}
 use Rattle.integer.specs.{part, octets}
 use Rattle.encoder.specs.{Nameplate, Units, Parameters, Class2, Class4, answer, buffer_refusal, parameters_refusal}
 use Rattle.parameters_writer.specs.{declared.Written.Written, declared.Written.TheVariants.Done, declared.Written.TheVariants.Refused}

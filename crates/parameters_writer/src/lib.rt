@@ -1,7 +1,7 @@
 // The writer of both classes (document 01, "Class 4 block").
 #![tactic(auto)]
 
-ghost use Rattle.integer.specs.Base.{◌≡◌, length};
+ghost use Rattle.std.specs.Prelude.{◌≡◌, length};
 ghost use Rattle.parameters_writer.specs.{length_of, telegram_of, block_of, octets_of, write_refusal, written, written_octets};
 
 use encoder::nameplate::Nameplate;

@@ -1,7 +1,9 @@
 -- A ledger beside the phase. Its p is a function of phase, offset and g (`origin`), so that what is kept is one equation. A move changes phase and g
 -- alike and keeps p; a start makes p 0, a preset the new position. The position is always near p + g × M / R: it is off by one remainder below R less
 -- another.
-use Rattle.integer.specs.Base.{◌≡◌, ap, ℕ, ◌+◌, ◌*◌, ◌/◌, ◌%◌, ◌<◌, arith, digits_div, ℤ, pos, ◌+ℤ◌, ◌-ℤ◌, ◌*ℤ◌}
+use Rattle.std.specs.Prelude.{◌≡◌, ℕ, ◌+◌, ◌*◌, ◌/◌, ◌%◌, ◌<◌, ℤ, pos, ◌+ℤ◌, ◌-ℤ◌, ◌*ℤ◌}
+use Rattle.std.proofs.Common.{ap, arith}
+use Rattle.std.proofs.Math.Arith.{digits_div}
 use Rattle.integer.specs.{◌modulo◌}
 use Rattle.integer.proofs.{above, below, signed, neg_is, add_is, diff_is, mul_is, modulo-has, modulo-is, modulo-alike}
 use Rattle.phase.specs.{stepped, origin, off, Near}

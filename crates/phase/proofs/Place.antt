@@ -1,5 +1,7 @@
 -- The phase of an axis that keeps its place: place × M around R × L. Its units are rule 4's, and start and move of the place are those of the phase.
-use Rattle.integer.specs.Base.{◌≡◌, ap, ℕ, ◌+◌, ◌*◌, ◌/◌, ◌%◌, ◌<◌, arith, digits_div, ℤ, pos, ◌+ℤ◌, ◌*ℤ◌}
+use Rattle.std.specs.Prelude.{◌≡◌, ℕ, ◌+◌, ◌*◌, ◌/◌, ◌%◌, ◌<◌, ℤ, pos, ◌+ℤ◌, ◌*ℤ◌}
+use Rattle.std.proofs.Common.{ap, arith}
+use Rattle.std.proofs.Math.Arith.{digits_div}
 use Rattle.integer.specs.{◌modulo◌}
 use Rattle.integer.proofs.{add_is, mul_is, modulo-has, modulo-alike}
 use Rattle.phase.specs.{stepped}

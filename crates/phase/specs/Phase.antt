@@ -1,6 +1,6 @@
 -- The phase: whole units and what is left of the next one as one number, units × R + rest. R parts are a unit, M parts are a step, and R × L parts are
 -- the total range. So a phase goes around a ring of R × L, a step moves it by M, and no step is rounded.
-use Rattle.integer.specs.Base.{ℕ, ◌*◌, ◌/◌, ℤ, pos, neg_ℤ, ◌+ℤ◌, ◌-ℤ◌, ◌*ℤ◌, ◌<ℤ◌}
+use Rattle.std.specs.Prelude.{ℕ, ◌*◌, ◌/◌, ℤ, pos, neg_ℤ, ◌+ℤ◌, ◌-ℤ◌, ◌*ℤ◌, ◌<ℤ◌}
 use Rattle.integer.specs.{◌modulo◌}
 
 -- the phase d steps after the phase x

@@ -1,8 +1,16 @@
 -- The functions on a ring give the remainder by n: a number and its place differ by a multiple of n.
 pub use borrow.Author.Rules.{rules}
-use Rattle.integer.specs.Base.{◌≡◌, refl, sym, ◌∙◌, Bool, true, false, cond, ◌&&◌, and-true, true≢false, ℕ, zero, suc, ◌+◌, ◌-◌, ◌*◌, ◌/◌, ◌%◌, ◌≤◌, ◌<◌, ◌^◌, arith}
-use Rattle.integer.specs.Base.{T, ltb, leb, ℤ, pos, negsuc, nat_abs, ◌+ℤ◌, ◌-ℤ◌, +ℤ_idl, lt_z, non_neg, lt-ltb, le-ltb, ltb-true, ltb-false, leb-true, ne_eqb, eq-eqb, w64, w32, Fits}
-use Rattle.integer.specs.Base.{SFits, to_z, of_z, to_z_pos}
+use Rattle.std.specs.Prelude.{◌≡◌, refl, Bool, true, false, cond, ◌&&◌, ℕ, zero, suc, ◌+◌, ◌-◌, ◌*◌, ◌/◌, ◌%◌, ◌≤◌, ◌<◌, ◌^◌}
+use Rattle.std.proofs.Common.{sym, ◌∙◌, true≢false, arith}
+use Rattle.std.proofs.Math.Bool.{and-true}
+use Rattle.std.specs.Prelude.{T, ltb, leb, ℤ, pos, negsuc, nat_abs, ◌+ℤ◌, ◌-ℤ◌}
+use Rattle.std.proofs.Common.{lt-ltb, le-ltb, ltb-true, ltb-false, leb-true, ne_eqb, eq-eqb}
+use Rattle.std.proofs.Math.IntN.{+ℤ_idl}
+use Rattle.std.specs.Int.Signed.{lt_z, non_neg}
+use Rattle.std.specs.Int.{w64, w32}
+use mir.Val.{Fits}
+use mir.Val.{SFits, to_z, of_z}
+use Rattle.std.proofs.lemmas.Int.{to_z_pos}
 use Rattle.integer.specs.{◌modulo◌}
 use Rattle.integer.proofs.{signed, above, below, apart, add_is, diff_is, abs_is, abs_diff, reads, fits-abs, to-nat, modulo-is, modulo-alike, modulo-lt}
 use Rattle.ring.specs.{on_ring, in_range, complement}

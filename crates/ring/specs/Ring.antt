@@ -1,6 +1,6 @@
 -- A ring of n places, and numbers within it (document 01: "modulo L", "modulo C", "modulo R × L"; "strictly between −L and L";
 -- "two's complement").
-use Rattle.integer.specs.Base.{ℕ, ◌^◌, Bool, cond, eqb, ltb, ℤ, nat_abs}
+use Rattle.std.specs.Prelude.{ℕ, ◌^◌, Bool, cond, eqb, ltb, ℤ, nat_abs}
 use Rattle.integer.specs.{◌modulo◌}
 
 -- z counted around a ring of n places; a ring of none has only 0

@@ -1,7 +1,8 @@
 // Counting around a ring of n places, 0 to n - 1.
 #![tactic(auto)]
 
-ghost use Rattle.integer.specs.Base.{◌≡◌, cond, ◌-◌, ◌<◌, ◌≤◌, ◌%◌, pos, nat_abs, ◌+ℤ◌, lt_z};
+ghost use Rattle.std.specs.Prelude.{◌≡◌, cond, ◌-◌, ◌<◌, ◌≤◌, ◌%◌, pos, nat_abs, ◌+ℤ◌};
+ghost use Rattle.std.specs.Int.Signed.{lt_z};
 ghost use Rattle.ring.specs.{on_ring, in_range, complement};
 
 // The place d further on; a negative d goes back.

@@ -1,6 +1,9 @@
 -- An accepted reading has a raw number below C, which fits 32 bits.
 pub use borrow.Author.Rules.{rules}
-use Rattle.integer.specs.Base.{◌≡◌, refl, sym, ◌∙◌, ℕ, zero, suc, ◌+◌, ◌*◌, ◌≤◌, ◌<◌, ◌^◌, arith, leb, leb-false, w64, w32, Fits}
+use Rattle.std.specs.Prelude.{◌≡◌, refl, ℕ, zero, suc, ◌+◌, ◌*◌, ◌≤◌, ◌<◌, ◌^◌, leb}
+use Rattle.std.proofs.Common.{sym, ◌∙◌, arith, leb-false}
+use Rattle.std.specs.Int.{w64, w32}
+use mir.Val.{Fits}
 use Rattle.encoder.specs.{Nameplate, wrong_step, when, answer, plate_refusal, capacity_of}
 use Rattle.encoder.proofs.{before-none, when-not, capacity-most}
 use Rattle.sensor.specs.{Reading, Number, Refused, raw_of, step_refusal, numbered}

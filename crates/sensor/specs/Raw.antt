@@ -1,5 +1,5 @@
 -- A reading and its raw number (document 01, "Plate and reading"; rows 8 and 9 of "When a call is turned away").
-use Rattle.integer.specs.Base.{ℕ, ◌+◌, ◌*◌, leb}
+use Rattle.std.specs.Prelude.{ℕ, ◌+◌, ◌*◌, leb}
 use Rattle.encoder.specs.{Nameplate, wrong_step, wrong_turn, when, ◌before◌, answer, plate_refusal}
 use Rattle.sensor.specs.{declared.Reading.Reading, declared.Reading.TheVariants.Number, declared.Reading.TheVariants.Refused}
 

@@ -1,7 +1,7 @@
 // A reading of the sensor and its raw number (document 01, "Plate and reading").
 #![tactic(auto)]
 
-ghost use Rattle.integer.specs.Base.{◌≡◌};
+ghost use Rattle.std.specs.Prelude.{◌≡◌};
 ghost use Rattle.sensor.specs.{step_refusal, numbered};
 
 use encoder::nameplate::Nameplate;

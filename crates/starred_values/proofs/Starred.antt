@@ -1,5 +1,5 @@
 -- The definitions give the starred values: one list, one claim, computed.
-use Rattle.integer.specs.Base.{◌≡◌, refl, map}
+use Rattle.std.specs.Prelude.{◌≡◌, refl, map}
 use Rattle.integer.specs.{big_endian, ◌modulo◌, clamp}
 use Rattle.ring.specs.{in_range}
 use Rattle.encoder.specs.{plate_refusal, fields_refusal, refusal_on, rules_of, in_force, rules_fit}

@@ -1,5 +1,5 @@
 -- The starred bench values (document 01, "Bench values"): beside each value of the paper what the definitions give, in one list.
-use Rattle.integer.specs.Base.{ℕ, ◌/◌, ◌%◌, false, List, [], ◌∷◌, ◌++◌, replicate, ℤ, pos, negsuc}
+use Rattle.std.specs.Prelude.{ℕ, ◌/◌, ◌%◌, false, List, [], ◌∷◌, ◌++◌, replicate, ℤ, pos, negsuc}
 use Rattle.encoder.specs.{Nameplate, Parameters, Class2, Class4, Effect, Taken as Effective, Refused as NotInForce, plain_plate, in_force}
 use Rattle.parameters_reader.specs.{Received, Taken, Refused, read_telegram}
 use Rattle.axis_shaft.specs.{Reported, At, declared.Reported.TheVariants.Refused as NotReported}

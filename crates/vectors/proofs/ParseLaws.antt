@@ -1,6 +1,9 @@
 -- A digit of base 10 or 16 behind 56 bits fits 64 bits.
 pub use borrow.Author.Rules.{rules}
-use Rattle.integer.specs.Base.{ℕ, ◌+◌, ◌*◌, ◌%◌, ◌^◌, ◌≤◌, ◌<◌, arith, w64, Fits}
+use Rattle.std.specs.Prelude.{ℕ, ◌+◌, ◌*◌, ◌%◌, ◌^◌, ◌≤◌, ◌<◌}
+use Rattle.std.proofs.Common.{arith}
+use Rattle.std.specs.Int.{w64}
+use mir.Val.{Fits}
 use native.Mathlib.Nat.{mul-le-mul}
 
 module _ (v b : ℕ) (h : b ≤ 16) where

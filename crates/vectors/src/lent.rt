@@ -1,5 +1,5 @@
 // A reading through a record that is lent, and moved where it lies.
-ghost use Rattle.integer.specs.Base.{◌≡◌};
+ghost use Rattle.std.specs.Prelude.{◌≡◌};
 ghost use Rattle.axis.specs.{read};
 
 use axis::{Axis, Next};

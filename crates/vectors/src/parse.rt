@@ -1,5 +1,5 @@
 // Numbers of a line, one after the other.
-ghost use Rattle.integer.specs.Base.{◌≤◌};
+ghost use Rattle.std.specs.Prelude.{◌≤◌};
 
 #[derive(Drop)]
 pub struct Parsed {

@@ -2,7 +2,9 @@
 -- of which only the contract is known; the axis of the answer is stored in the record, and the borrow is closed at it.
 -- No line names a field of `Axis`, `Steps` or `Turns`: the walk is the same whatever they hold.
 use denote.Ref.{MutBor, mut_vals}
-use Rattle.integer.specs.Base.{◌≡◌, refl, ap, ℕ, [], ◌∷◌, List, w8}
+use Rattle.std.specs.Prelude.{◌≡◌, refl, ℕ, [], ◌∷◌, List}
+use Rattle.std.proofs.Common.{ap}
+use Rattle.std.specs.Int.{w8}
 use Rattle.encoder.specs.{Steps, Turns}
 use Rattle.axis.specs.{Axis, Next, read}
 use Rattle.axis.proofs.{Axis.read.Symbol.name as #callee}

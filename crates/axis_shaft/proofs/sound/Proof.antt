@@ -1,5 +1,5 @@
 -- The tests are those of the definition.
-use Rattle.integer.specs.Base.{refl}
+use Rattle.std.specs.Prelude.{refl}
 use Rattle.encoder.specs.{rules_fit}
 use Rattle.axis_shaft.proofs.{sound.Statement.statement, sound.Tie.close, sound.Tie.spec, sound.Tie.Need-returns}
 

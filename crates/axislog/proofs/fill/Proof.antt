@@ -1,5 +1,5 @@
 -- The invariant: the octets read so far stand at the start of the buffer.
-use Rattle.integer.specs.Base.{◌≡◌, ◌≤◌, ◌-◌, length}
+use Rattle.std.specs.Prelude.{◌≡◌, ◌≤◌, ◌-◌, length}
 use Rattle.axislog.proofs.{InputLaws.inputs, InputLaws.needs, fill.Statement.statement, fill.Tie.close, fill.Tie.spec, fill.Tie.InvT-loop, fill.Tie.MeasureT-loop}
 
 abbrev Inv-loop : InvT-loop

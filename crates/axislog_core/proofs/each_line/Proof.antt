@@ -1,5 +1,5 @@
 -- What is written and the answers to come make up all answers.
-use Rattle.integer.specs.Base.{◌≡◌, ◌-◌, length}
+use Rattle.std.specs.Prelude.{◌≡◌, ◌-◌, length}
 use Rattle.axislog_core.proofs.{LogLaws.Running, LogLaws.logs, LogLaws.needs, each_line.Statement.statement, each_line.Tie.close, each_line.Tie.spec}
 use Rattle.axislog_core.proofs.{each_line.Tie.invariant-loop, each_line.Tie.decreases-loop}
 

@@ -1,5 +1,5 @@
 -- The number of the link and of the two lengths decides.
-use Rattle.integer.specs.Base.{refl}
+use Rattle.std.specs.Prelude.{refl}
 use Rattle.encoder.proofs.{answer-no, answer-yes}
 use Rattle.cyclic.specs.{cycle, cycle_input}
 use Rattle.cyclic.proofs.{CycleLaws.lengths, CycleLaws.number_is, CycleLaws.needs, run.Statement.statement, run.Tie.close, run.Tie.spec}

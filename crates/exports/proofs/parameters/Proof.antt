@@ -1,4 +1,4 @@
-use Rattle.integer.specs.Base.{ne_eqb}
+use Rattle.std.proofs.Common.{ne_eqb}
 use Rattle.exports.proofs.{parameters.Statement.statement, parameters.Tie.close, parameters.Tie.spec}
 
 pub parameters-spec : {M : Type 1} → statement M

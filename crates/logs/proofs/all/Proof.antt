@@ -1,5 +1,6 @@
 -- The loop counts up to the number of arguments; the buffer keeps its length.
-use Rattle.integer.specs.Base.{needs, ◌≡◌, ◌-◌, length}
+use Rattle.std.specs.Prelude.{◌≡◌, ◌-◌, length}
+use Rattle.integer.specs.Base.{needs}
 use Rattle.logs.proofs.{all.Statement.statement, all.Tie.close, all.Tie.spec, all.Tie.InvT-loop, all.Tie.MeasureT-loop}
 
 abbrev Inv-loop : InvT-loop

@@ -1,5 +1,6 @@
 -- A part that ends within the buffer has its length.
-use Rattle.integer.specs.Base.{needs, sym, arith, length-take-le}
+use Rattle.std.proofs.Common.{sym, arith, length-take-le}
+use Rattle.integer.specs.Base.{needs}
 use Rattle.logs.proofs.{cut.Statement.statement, cut.Tie.close, cut.Tie.spec}
 
 pub cut_spec : {M : Type 1} → statement M

@@ -1,6 +1,6 @@
 -- The loop keeps the number of the octets that it has passed.
 use Rattle.std.proofs.Common.{rules}
-use Rattle.integer.specs.Base.{◌≤◌, ◌%◌, ◌^◌, ◌≡◌, arith}
+use Rattle.std.proofs.Common.{arith}
 use Rattle.octets.proofs.OctetLaws.{number-none, number_more, number-all}
 use Rattle.octets.proofs.number.Goals as goal
 

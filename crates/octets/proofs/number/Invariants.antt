@@ -1,7 +1,6 @@
 -- The loop keeps the number of the octets that it has passed.
-use Rattle.integer.specs.Base.{◌≤◌, ◌-◌, ◌%◌, ◌^◌, ◌≡◌, arith, length, take}
+use Rattle.std.specs.Prelude.{◌≤◌, ◌-◌, ◌%◌, ◌^◌, ◌≡◌, length, take}
 use Rattle.integer.specs.{big_endian}
-use Rattle.octets.proofs.{OctetLaws.number-none, OctetLaws.number_more, OctetLaws.number-all}
 use Rattle.octets.proofs.number.Given as goal
 
 abbrev pub invariant-loop-i : goal.invariant-loop-i

@@ -1,7 +1,5 @@
 -- The loop keeps what is still to be written in front of what is written.
 use Rattle.std.proofs.Common.{rules}
-use Rattle.integer.specs.Base.{◌≤◌, ◌≡◌, ◌++◌, arith, length, drop, length-set}
-use Rattle.integer.specs.{octets}
 use Rattle.octets.proofs.{OctetLaws.put-none, OctetLaws.put-more, OctetLaws.put_all}
 use Rattle.octets.proofs.put_number.Goals as goal
 
@@ -9,4 +7,4 @@ pub loop-i-preserved : goal.loop-i-preserved
 loop-i-preserved c = search (rules, put-none, put-more, put_all)
 
 pub returns : goal.returns
-returns c = search (rules, put-none, put-more, put_all)
+returns c = search (rules, put_all)

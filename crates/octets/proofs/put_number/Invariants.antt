@@ -1,7 +1,6 @@
 -- The loop keeps what is still to be written in front of what is written.
-use Rattle.integer.specs.Base.{◌≤◌, ◌≡◌, ◌++◌, arith, length, drop, length-set}
+use Rattle.std.specs.Prelude.{◌≤◌, ◌≡◌, ◌++◌, length, drop}
 use Rattle.integer.specs.{octets}
-use Rattle.octets.proofs.{OctetLaws.put-none, OctetLaws.put-more, OctetLaws.put_all}
 use Rattle.octets.proofs.put_number.Given as goal
 
 abbrev pub invariant-loop-i : goal.invariant-loop-i

@@ -1,5 +1,5 @@
 -- Each turn goes past the end of a line.
-use Rattle.integer.specs.Base.{◌-◌, length}
+use Rattle.std.specs.Prelude.{◌-◌, length}
 use Rattle.vectors.proofs.{ParseLaws.needs, lines.Statement.statement, lines.Tie.close, lines.Tie.spec, lines.Tie.InvT-loop, lines.Tie.MeasureT-loop}
 
 abbrev Inv-loop : InvT-loop

@@ -1,5 +1,5 @@
 -- The number of the refusal decides; the offset is passed on as the machine reads it back.
-use Rattle.integer.specs.Base.{sym, ◌∙◌}
+use Rattle.std.proofs.Common.{sym, ◌∙◌}
 use Rattle.integer.proofs.{reads}
 use Rattle.encoder.proofs.{exits}
 use Rattle.axis_shaft.specs.{batched, batched_list}

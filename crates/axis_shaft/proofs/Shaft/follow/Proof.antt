@@ -1,5 +1,7 @@
 -- The running values are those of a shaft, and what is written and what the readings from the i-th on will write is the whole list.
-use Rattle.integer.specs.Base.{◌≡◌, ◌≤◌, ◌<◌, ◌-◌, ◌*◌, ◌^◌, nat_abs, length, w64, to_z}
+use Rattle.std.specs.Prelude.{◌≡◌, ◌≤◌, ◌<◌, ◌-◌, ◌*◌, ◌^◌, nat_abs, length}
+use Rattle.std.specs.Int.{w64}
+use mir.Val.{to_z}
 use Rattle.axis_shaft.specs.{lead_of}
 use Rattle.axis_shaft.proofs.{FollowLaws.Following, FollowLaws.walks, SensorLaws.needs, Shaft.follow.Statement.statement, Shaft.follow.Tie.close}
 use Rattle.axis_shaft.proofs.{Shaft.follow.Tie.spec, Shaft.follow.Tie.invariant-loop, Shaft.follow.Tie.decreases-loop}

@@ -1,5 +1,5 @@
 -- What was found and what the readings from the i-th on will show is what all of them show.
-use Rattle.integer.specs.Base.{◌≡◌, ◌||◌, ◌≤◌, ◌-◌, ◌/◌, length, drop}
+use Rattle.std.specs.Prelude.{◌≡◌, ◌||◌, ◌≤◌, ◌-◌, ◌/◌, length, drop}
 use Rattle.axis_shaft.specs.{doubtful}
 use Rattle.axis_shaft.proofs.{BatchLaws.looks, SensorLaws.needs, raw.doubtful.Statement.statement, raw.doubtful.Tie.close}
 use Rattle.axis_shaft.proofs.{raw.doubtful.Tie.spec, raw.doubtful.Tie.invariant-loop, raw.doubtful.Tie.decreases-loop}

@@ -1,5 +1,5 @@
 -- The first refusal of the readings from the i-th on is the first refusal of all.
-use Rattle.integer.specs.Base.{◌≡◌, ◌≤◌, ◌<◌, ◌-◌, length, drop}
+use Rattle.std.specs.Prelude.{◌≡◌, ◌≤◌, ◌<◌, ◌-◌, length, drop}
 use Rattle.encoder.specs.{Sound}
 use Rattle.axis_shaft.specs.{refusal_in}
 use Rattle.axis_shaft.proofs.{BatchLaws.checks, SensorLaws.needs, raw.first_refusal.Statement.statement, raw.first_refusal.Tie.close}

@@ -1,5 +1,5 @@
 -- The invariant: the definition from here on equals the definition from the start.
-use Rattle.integer.specs.Base.{◌≡◌, ◌≤◌, ◌-◌, length, drop}
+use Rattle.std.specs.Prelude.{◌≡◌, ◌≤◌, ◌-◌, length, drop}
 use Rattle.axislog_lexer.specs.{digits}
 use Rattle.axislog_lexer.proofs.{NumberLaws.digit-steps, NumberLaws.needs, number.digits.Statement.statement, number.digits.Tie.close, number.digits.Tie.spec}
 use Rattle.axislog_lexer.proofs.{number.digits.Tie.invariant-loop, number.digits.Tie.decreases-loop}

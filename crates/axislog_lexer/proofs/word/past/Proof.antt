@@ -1,5 +1,5 @@
 -- The invariant: the definition from here on equals the definition from the start.
-use Rattle.integer.specs.Base.{◌≡◌, ◌≤◌, ◌-◌, length, drop}
+use Rattle.std.specs.Prelude.{◌≡◌, ◌≤◌, ◌-◌, length, drop}
 use Rattle.axislog_lexer.specs.{past}
 use Rattle.axislog_lexer.proofs.{WordLaws.words, NumberLaws.needs, word.past.Statement.statement, word.past.Tie.close, word.past.Tie.spec}
 use Rattle.axislog_lexer.proofs.{word.past.Tie.invariant-loop, word.past.Tie.decreases-loop}

@@ -1,4 +1,4 @@
-use Rattle.integer.specs.Base.{refl}
+use Rattle.std.specs.Prelude.{refl}
 use Rattle.encoder.proofs.{answer-no}
 use Rattle.axislog_state.specs.{after}
 use Rattle.axislog_state.proofs.{StateLaws.needs, State.after.Statement.statement, State.after.Tie.close, State.after.Tie.spec}

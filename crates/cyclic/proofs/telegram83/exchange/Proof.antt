@@ -1,5 +1,5 @@
 -- The calls yield it one after the other: the raw number with NIST_B, what follows on it, and the octets of NIST_B behind the twelve.
-use Rattle.integer.specs.Base.{arith, length-take, length-drop}
+use Rattle.std.proofs.Common.{arith, length-take, length-drop}
 use Rattle.cyclic.proofs.Telegram83Laws.{next-fields, answer-83, octets-83}
 use Rattle.cyclic.proofs.CycleLaws.{needs}
 use Rattle.cyclic.proofs.telegram83.exchange.Statement.{statement}

@@ -1,5 +1,7 @@
 -- A number of 32 bits fits 64.
-use Rattle.integer.specs.Base.{◌∙◌, w64, SFits}
+use Rattle.std.proofs.Common.{◌∙◌}
+use Rattle.std.specs.Int.{w64}
+use mir.Val.{SFits}
 use Rattle.integer.proofs.{reads}
 use Rattle.cyclic.proofs.{CycleLaws.needs, telegram83.put_velocity.Statement.statement, telegram83.put_velocity.Tie.close, telegram83.put_velocity.Tie.spec}
 use mir.{Facts.sfits_widen}

@@ -1,5 +1,5 @@
 -- The number of link, class, lengths and time decides.
-use Rattle.integer.specs.Base.{refl}
+use Rattle.std.specs.Prelude.{refl}
 use Rattle.encoder.proofs.{answer-no, answer-yes}
 use Rattle.cyclic.specs.{cycle83, cycle83_input}
 use Rattle.cyclic.proofs.{Telegram83Laws.passed-83, Telegram83Laws.number-83, CycleLaws.needs, telegram83.run.Statement.statement, telegram83.run.Tie.close}

@@ -1,4 +1,4 @@
-use Rattle.integer.specs.Base.{arith, length-set}
+use Rattle.std.proofs.Common.{arith, length-set}
 use Rattle.diagnosis.proofs.{PartLaws.parts, PartLaws.needs, part.fill_general.Statement.statement, part.fill_general.Tie.close, part.fill_general.Tie.spec}
 
 pub fill-general-spec : {M : Type 1} → statement M

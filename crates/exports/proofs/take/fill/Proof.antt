@@ -1,4 +1,4 @@
-use Rattle.integer.specs.Base.{sym}
+use Rattle.std.proofs.Common.{sym}
 use Rattle.exports.proofs.{NumbersLaws.needs, take.fill.Statement.statement, take.fill.Tie.close, take.fill.Tie.spec}
 
 pub fill_spec : {M : Type 1} → statement M

@@ -1,4 +1,4 @@
-use Rattle.integer.specs.Base.{arith, length-set}
+use Rattle.std.proofs.Common.{arith, length-set}
 use Rattle.exports.proofs.{NumbersLaws.five-filled, NumbersLaws.needs, take.put_five.Statement.statement, take.put_five.Tie.close, take.put_five.Tie.spec}
 
 pub put-five-spec : {M : Type 1} → statement M

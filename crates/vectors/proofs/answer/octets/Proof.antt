@@ -1,5 +1,5 @@
 -- The index stays within the buffer.
-use Rattle.integer.specs.Base.{◌≤◌, ◌-◌, length}
+use Rattle.std.specs.Prelude.{◌≤◌, ◌-◌, length}
 use Rattle.vectors.proofs.{ParseLaws.needs, answer.octets.Statement.statement, answer.octets.Tie.close, answer.octets.Tie.spec, answer.octets.Tie.invariant-loop}
 use Rattle.vectors.proofs.{answer.octets.Tie.decreases-loop}
 

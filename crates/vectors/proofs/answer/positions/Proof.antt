@@ -1,5 +1,5 @@
 -- The index stays within the list.
-use Rattle.integer.specs.Base.{◌≤◌, ◌-◌, length}
+use Rattle.std.specs.Prelude.{◌≤◌, ◌-◌, length}
 use Rattle.vectors.proofs.{ParseLaws.needs, answer.positions.Statement.statement, answer.positions.Tie.close, answer.positions.Tie.spec}
 use Rattle.vectors.proofs.{answer.positions.Tie.invariant-loop, answer.positions.Tie.decreases-loop}
 

@@ -1,5 +1,5 @@
 -- The part that is lent has as many octets as asked.
-use Rattle.integer.specs.Base.{arith, length-take}
+use Rattle.std.proofs.Common.{arith, length-take}
 use Rattle.vectors.proofs.{ParseLaws.needs, bench.exchange.Statement.statement, bench.exchange.Tie.close, bench.exchange.Tie.spec}
 
 pub exchange-spec : {M : Type 1} → statement M

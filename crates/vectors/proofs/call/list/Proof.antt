@@ -1,5 +1,5 @@
 -- The part that is lent has as many numbers as asked.
-use Rattle.integer.specs.Base.{arith, length-take}
+use Rattle.std.proofs.Common.{arith, length-take}
 use Rattle.vectors.proofs.{ParseLaws.needs, call.list.Statement.statement, call.list.Tie.close, call.list.Tie.spec}
 
 pub list-spec : {M : Type 1} → statement M

@@ -1,5 +1,6 @@
 -- The numbers so far are within the list, whose length stays.
-use Rattle.integer.specs.Base.{◌≤◌, ◌-◌, ◌≡◌, sym, arith, length, length-set, length-take-le}
+use Rattle.std.specs.Prelude.{◌≤◌, ◌-◌, ◌≡◌, length}
+use Rattle.std.proofs.Common.{sym, arith, length-set, length-take-le}
 use Rattle.vectors.proofs.{ParseLaws.needs, call.numbers.Statement.statement, call.numbers.Tie.close, call.numbers.Tie.spec, call.numbers.Tie.invariant-loop}
 use Rattle.vectors.proofs.{call.numbers.Tie.decreases-loop}
 

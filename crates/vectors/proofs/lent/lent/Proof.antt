@@ -2,7 +2,9 @@
 -- known, for a lifetime that is made for the call; the lifetime is ended, the record comes back as the call left it, and the answer is made of it.
 -- No line names a field of `Axis`, `Steps` or `Turns`: the walk is the same whatever they hold.
 use denote.Ref.{MutBor}
-use Rattle.integer.specs.Base.{◌≡◌, refl, ap, ℕ, [], ◌∷◌, List, w8}
+use Rattle.std.specs.Prelude.{◌≡◌, refl, ℕ, [], ◌∷◌, List}
+use Rattle.std.proofs.Common.{ap}
+use Rattle.std.specs.Int.{w8}
 use Rattle.encoder.specs.{Steps, Turns}
 use Rattle.axis.specs.{Axis, Next, read}
 use Rattle.axis_in_place.proofs.{read_in_place.Symbol.name as #callee}

@@ -1,5 +1,5 @@
 -- Each turn goes one further, and a digit behind 56 bits fits.
-use Rattle.integer.specs.Base.{◌-◌, length}
+use Rattle.std.specs.Prelude.{◌-◌, length}
 use Rattle.vectors.proofs.{ParseLaws.shifted_fits, ParseLaws.digit-fits, ParseLaws.needs, parse.number.Statement.statement, parse.number.Tie.close}
 use Rattle.vectors.proofs.{parse.number.Tie.spec, parse.number.Tie.invariant-loop, parse.number.Tie.decreases-loop}
 

@@ -1,5 +1,5 @@
 -- Each turn goes one further.
-use Rattle.integer.specs.Base.{◌-◌, length}
+use Rattle.std.specs.Prelude.{◌-◌, length}
 use Rattle.vectors.proofs.{ParseLaws.needs, parse.past_blanks.Statement.statement, parse.past_blanks.Tie.close, parse.past_blanks.Tie.spec}
 use Rattle.vectors.proofs.{parse.past_blanks.Tie.invariant-loop, parse.past_blanks.Tie.decreases-loop}
 

@@ -1,5 +1,6 @@
 -- The octets so far are within the buffer, whose length stays.
-use Rattle.integer.specs.Base.{◌≤◌, ◌-◌, ◌≡◌, sym, arith, length, length-set, length-take-le}
+use Rattle.std.specs.Prelude.{◌≤◌, ◌-◌, ◌≡◌, length}
+use Rattle.std.proofs.Common.{sym, arith, length-set, length-take-le}
 use Rattle.vectors.proofs.{ParseLaws.needs, vector.octets.Statement.statement, vector.octets.Tie.close, vector.octets.Tie.spec, vector.octets.Tie.invariant-loop}
 use Rattle.vectors.proofs.{vector.octets.Tie.decreases-loop}
 

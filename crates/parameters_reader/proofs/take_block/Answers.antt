@@ -1,0 +1,6 @@
+use Rattle.std.proofs.Common.{rules}
+use Rattle.parameters_reader.proofs.{ReadLaws.contents}
+use Rattle.parameters_reader.proofs.take_block.Goals as goal
+
+pub returns : goal.returns
+returns c = search (rules, contents)
