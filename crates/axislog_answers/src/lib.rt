@@ -1,7 +1,8 @@
 // The answers of axislog, and the line that each is printed as (document 01, "The program axislog").
 #![tactic(auto)]
 
-ghost use Rattle.integer.specs.Base.{◌≡◌, ◌+◌, ◌≤◌, length};
+ghost use Rattle.std.specs.Prelude.{◌≡◌, ◌+◌, ◌≤◌};
+ghost use Rattle.integer.specs.Base.{length};
 ghost use Rattle.axislog_answers.specs.{decimal, number_form, line, held};
 
 use itoa::Buffer;

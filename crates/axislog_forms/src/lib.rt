@@ -1,7 +1,7 @@
 // A line of an axis log, read as a form (document 01, "The program axislog"). Positions in a line are counted from 0.
 #![tactic(auto)]
 
-ghost use Rattle.integer.specs.Base.{◌≡◌};
+ghost use Rattle.std.specs.Prelude.{◌≡◌};
 ghost use Rattle.axislog_forms.specs.{form, read, preset, axis, sequence, scale};
 
 use axislog_lexer::number::{Decimal, labelled, last};
