@@ -1,30 +1,25 @@
--- The shortest decimal of a number is its text, and its length. By induction: take off the last digit.
-use Rattle.std.specs.Prelude.{◌≡◌, Bool, true, false, cond, [], ◌∷◌, ◌++◌, ℕ, zero, suc, ◌+◌, ◌/◌, ◌%◌, ◌^◌, ◌≤◌, ◌<◌, ltb, length}
-use Rattle.std.proofs.Common.{arith, length-append, lt-ltb}
-use Rattle.std.proofs.Common.{le-ltb}
+-- The library's decimal of a number is its text, and its length. By induction: take off the last digit.
+use Rattle.std.specs.Fmt.{decimal as library_decimal}
+use Rattle.std.proofs.lemmas.Fmt.{decimal_digit, decimal_step}
+use Rattle.std.specs.Prelude.{◌≡◌, refl, Bool, true, false, cond, [], ◌∷◌, ◌++◌, ℕ, zero, suc, ◌+◌, ◌/◌, ◌%◌, ◌^◌, ◌≤◌, ◌<◌, ltb, length}
+use Rattle.std.proofs.Common.{arith, ltb-true, ltb-false, length-append, lt-ltb}
 use Rattle.std.specs.Int.{w32}
 use mir.Val.{Fits}
 use Rattle.axislog_answers.specs.{decimal_below, decimal}
-use Rattle.io.{specs.Digits.digits, specs.Digits.Fewest}
-use native.Mathlib.Numerals.{sub-one}
-use native.Mathlib.Nat as N
 
-below-is : (f n k : ℕ) → k ≤ f → n < 10 ^ suc k → (0 < k → 10 ^ k ≤ n) → digits 10 (suc k) n ≡ decimal_below (suc f) n
+below-is : (f n : ℕ) → n < 10 ^ suc f → n < 2 ^ 64 → library_decimal n ≡ decimal_below (suc f) n
 unfolding decimal_below
-below-is f n zero h lt le = rw (N.mod-eq_of_lt lt, lt-ltb n 10 lt)
-below-is zero n (suc k) h lt le = absurd (omega arith)
-below-is (suc f) n (suc k) h lt le =
-    let p = le (omega arith) in
-    let two : 10 ≤ n = omega (arith, N.one-le-pow k 10 (omega arith)) in
-    rw (le-ltb n 10 two, lt-ltb (n % 10) 10 (omega arith), below-is f (n / 10) k (omega arith) (omega arith) (λ o. omega arith))
+below-is zero n h small = rw (lt-ltb n 10 h, decimal_digit n h)
+below-is (suc f) n h small = go (ltb n 10) (λ t. ltb-true n 10 t) (λ t. ltb-false n 10 t) (λ le. below-is f (n / 10) (omega arith) (omega arith))
+  where
+    go : (b : Bool) → (b ≡ true → n < 10) → (b ≡ false → 10 ≤ n) → (10 ≤ n → library_decimal (n / 10) ≡ decimal_below (suc f) (n / 10))
+        → library_decimal n ≡ cond b ((48 + n) ∷ []) (decimal_below (suc f) (n / 10) ++ ((48 + n % 10) ∷ []))
+    go true lt le rest = decimal_digit n (lt refl)
+    go false lt le rest = rw (decimal_step n (le refl) small, rest (le refl))
 
-pub decimal-is : (n k : ℕ) → Fits w32 n → Fewest 10 1 n k → digits 10 k n ≡ decimal n
+pub decimal-is : (n : ℕ) → Fits w32 n → library_decimal n ≡ decimal n
 unfolding decimal
-decimal-is n zero fits w = absurd (omega arith)
-decimal-is n (suc k) fits w =
-    let le : 0 < k → 10 ^ k ≤ n = λ h. rw sub-one at (w.2 (omega arith)) in
-    let most : k < 10 = N.lt_of_not-le (λ h. omega (arith, le (omega arith), N.pow-le-pow_right {n = 10} (omega arith) {i = 10} {j = k} h)) in
-    below-is 9 n k (omega arith) w.1 le
+decimal-is n fits = below-is 9 n (omega arith) (omega arith)
 
 -- ---- how many there are
 one_more : (f n : ℕ) → length (decimal_below (suc f) n) ≤ suc (length (decimal_below f (n / 10)))

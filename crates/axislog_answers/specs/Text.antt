@@ -1,5 +1,6 @@
 -- The answers, one a line (document 01, "The program axislog").
-use Rattle.std.specs.Prelude.{ℕ, zero, suc, ◌+◌, ◌/◌, ◌%◌, List, [], ◌∷◌, ◌++◌, cond, ltb, length, replicate}
+use Rattle.std.specs.Prelude.{◌+◌, ◌/◌, ◌%◌, ◌∷◌, ◌++◌}
+use Rattle.std.specs.Prelude.{ℕ, zero, suc, List, [], cond, ltb, length, replicate}
 use Rattle.integer.specs.{ascii, over}
 use Rattle.axislog_answers.specs.{declared.Answer.Answer, declared.Answer.TheVariants.Ready, declared.Answer.TheVariants.At}
 use Rattle.axislog_answers.specs.{declared.Answer.TheVariants.Refused, declared.Line.Line}

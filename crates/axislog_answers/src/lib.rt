@@ -1,8 +1,11 @@
 // The answers of axislog, and the line that each is printed as (document 01, "The program axislog").
 #![tactic(auto)]
 
-ghost use Rattle.std.specs.Prelude.{◌≡◌, ◌+◌, ◌≤◌, length};
+ghost use Rattle.std.specs.Prelude.{◌≡◌, ◌+◌, ◌≤◌};
+ghost use Rattle.std.specs.Prelude.{length};
 ghost use Rattle.axislog_answers.specs.{decimal, number_form, line, held};
+
+use itoa::Buffer;
 
 #[derive(Drop)]
 pub enum Answer {
@@ -39,7 +42,8 @@ fn fixed(text: &[u8]) -> Line
     ensures { result ≡ held text.now }
 {
     let mut octets = [0u8; 16];
-    let length = bytes::copy(text, &mut octets);
+    let length = text.len();
+    octets[..length].copy_from_slice(text);
     Line { octets, length }
 }
 
@@ -49,10 +53,13 @@ fn numbered(word: &[u8], n: u32) -> Line
     ensures { result ≡ held (number_form word.now n) }
 {
     let mut octets = [0u8; 16];
-    let mut digits = [0u8; 20];
-    let k = io::decimal(n as u64, &mut digits);
-    let a = bytes::copy(word, &mut octets);
-    let b = a + bytes::copy(&digits[..k], &mut octets[a..]);
-    let length = b + bytes::copy(b")\n", &mut octets[b..]);
+    let mut buffer = Buffer::new();
+    let digits = buffer.format(n).as_bytes();
+    let a = word.len();
+    let b = a + digits.len();
+    let length = b + 2;
+    octets[..a].copy_from_slice(word);
+    octets[a..b].copy_from_slice(digits);
+    octets[b..length].copy_from_slice(b")\n");
     Line { octets, length }
 }

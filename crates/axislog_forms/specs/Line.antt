@@ -1,6 +1,7 @@
 -- The forms of a line (document 01, "The program axislog"), as they are found in it from left to right. How each is written stands in
 -- crates/axislog_grammar/specs/Grammar.antt, where it is proved that just these lines are forms.
-use Rattle.std.specs.Prelude.{ℕ, List, Bool, true, false, cond, eqb, pos, ◌-ℤ◌, drop}
+use Rattle.std.specs.Prelude.{◌-ℤ◌}
+use Rattle.std.specs.Prelude.{ℕ, List, Bool, true, false, cond, eqb, pos, drop}
 use Rattle.integer.specs.{ascii}
 use Rattle.axislog_lexer.specs.{Decimal, declared.number.Decimal.TheVariants.Number, Nothing as NoNumber, Place, At, Nowhere, past, ends, labelled, last}
 use Rattle.axislog_forms.specs.declared.Form.{Form}

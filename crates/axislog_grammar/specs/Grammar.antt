@@ -1,6 +1,7 @@
 -- How each form is written (document 01, "The program axislog"): one nested bracket form a line, single spaces, decimal without leading zeros, at
 -- most 4294967295 in size; inner forms in the order shown; the scale form may be missing.
-use Rattle.std.specs.Prelude.{◌≡◌, Bool, true, false, List, [], ◌++◌, ℕ, suc, ◌≤◌, ℤ, pos, negsuc, nat_abs}
+use Rattle.std.specs.Prelude.{◌≡◌, ◌++◌, ◌≤◌}
+use Rattle.std.specs.Prelude.{Bool, true, false, List, [], ℕ, suc, ℤ, pos, negsuc, nat_abs}
 use Rattle.integer.specs.{ascii}
 use Rattle.axislog_forms.specs.{Setup, Form, Axis, Read, Preset, Nothing, form}
 use Rattle.axislog_answers.specs.{decimal}

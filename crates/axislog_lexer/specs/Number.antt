@@ -1,5 +1,6 @@
 -- Decimal numbers: no leading zero, at most 4294967295 (document 01, "The program axislog").
-use Rattle.std.specs.Prelude.{ℕ, ◌+◌, ◌*◌, ◌-◌, List, [], ◌∷◌, cond, ltb, eqb, drop}
+use Rattle.std.specs.Prelude.{◌+◌, ◌*◌, ◌-◌, ◌∷◌}
+use Rattle.std.specs.Prelude.{ℕ, List, [], cond, ltb, eqb, drop}
 use Rattle.axislog_lexer.specs.{declared.number.Decimal.Decimal, declared.number.Decimal.TheVariants.Number, declared.number.Decimal.TheVariants.Nothing}
 use Rattle.axislog_lexer.specs.{declared.word.Place.Place, declared.word.Place.TheVariants.At, declared.word.Place.TheVariants.Nowhere, Word.past, Word.ends}
 

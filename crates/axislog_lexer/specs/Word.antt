@@ -1,5 +1,6 @@
 -- Words in a line (document 01, "The program axislog"). Positions are counted from 0.
-use Rattle.std.specs.Prelude.{ℕ, ◌+◌, List, [], ◌∷◌, Bool, false, cond, eqb, length, drop}
+use Rattle.std.specs.Prelude.{◌+◌, ◌∷◌}
+use Rattle.std.specs.Prelude.{ℕ, List, [], Bool, false, cond, eqb, length, drop}
 use Rattle.axislog_lexer.specs.{declared.word.Place.Place, declared.word.Place.TheVariants.At, declared.word.Place.TheVariants.Nowhere}
 
 -- a word, and a text from position p on that begins with it: the position after the word

@@ -1,5 +1,6 @@
 // Decimal numbers in a line: no leading zero, at most 4294967295.
-ghost use Rattle.std.specs.Prelude.{◌≡◌, ◌≤◌, length, drop};
+ghost use Rattle.std.specs.Prelude.{◌≡◌, ◌≤◌};
+ghost use Rattle.std.specs.Prelude.{length, drop};
 ghost use Rattle.axislog_lexer.specs.{digit_of, digits, number, labelled, last};
 
 use crate::word::{Place, ends, past};

@@ -1,5 +1,6 @@
 // Words in a line, compared octet by octet.
-ghost use Rattle.std.specs.Prelude.{◌≡◌, drop};
+ghost use Rattle.std.specs.Prelude.{◌≡◌};
+ghost use Rattle.std.specs.Prelude.{drop};
 ghost use Rattle.axislog_lexer.specs.{past, ends};
 
 // Where a line goes on after a word.
