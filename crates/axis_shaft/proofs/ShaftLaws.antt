@@ -125,8 +125,8 @@ module _ (f : InForce) (k : Shaft) (raw : ℕ) (e : Approach) (e-is : e ≡ appr
     pub moved-lt : raw < f.capacity.0
     moved-lt = raw-lt f k.last.0 raw refusals-none.1
 
-    pub moved_by : to_z w64 (of_z w64 d) ≡ move_of f k.last.0 raw
-    moved_by = let i = approach-taken.1 in rw (i, reads (move-fits f k.last.0 raw moved_inside.sound))
+    pub moved-by : to_z w64 (of_z w64 d) ≡ move_of f k.last.0 raw
+    moved-by = let i = approach-taken.1 in rw (i, reads (move-fits f k.last.0 raw moved_inside.sound))
 
     pub moved-to : (m : Shaft) → m ≡ moved_to f k raw → To m ≡ moved f k raw
     unfolding moved
@@ -142,7 +142,7 @@ module _ (f : InForce) (k : Shaft) (raw : ℕ) (e : Approach) (e-is : e ≡ appr
   module _ (d : ℤ) (h : e ≡ By d) where
     pub moved-by-to : (m : Shaft) → m ≡ moved_to f k raw → ToBy m (to_z w64 (of_z w64 d)) ≡ moved_by f k raw
     unfolding moved_by
-    moved-by-to m m-is = rw ((approach-taken d h).0, m-is, moved_by d h)
+    moved-by-to m m-is = rw ((approach-taken d h).0, m-is, moved-by d h)
 
   pub moved-by-no : (n : ℕ) → e ≡ NotApproached n → NotMovedBy n ≡ moved_by f k raw
   unfolding approached moved_by
@@ -150,7 +150,7 @@ module _ (f : InForce) (k : Shaft) (raw : ℕ) (e : Approach) (e-is : e ≡ appr
       let i = by-refused e (move_of f k.last.0 raw) (shaft_refusal f k raw) n h e-is in
       rw (i.0, refused-is NotMovedBy (ToBy (moved_to f k raw) (move_of f k.last.0 raw)) n i.1)
 
-pub ruleset moves = (moved_inside, moved-lt, moved_by, moved-to, moved-no, moved-by-to, moved-by-no)
+pub ruleset moves = (moved_inside, moved-lt, moved-by, moved-to, moved-no, moved-by-to, moved-by-no)
 
 -- ---- from the answers back to the numbers
 pub to-taken : (e : Moved) (k m : Shaft) (n : ℕ) → e ≡ To m → e ≡ answer NotMoved (To k) n → (n ≡ 0) × (m ≡ k)

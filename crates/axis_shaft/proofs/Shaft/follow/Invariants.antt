@@ -1,0 +1,12 @@
+-- The running values are those of a shaft, and what is written and what the readings from the i-th on will write is the whole list.
+use Rattle.std.specs.Prelude.{◌≡◌, ◌≤◌, ◌<◌, ◌-◌, ◌*◌, ◌^◌, nat_abs, length}
+use Rattle.axis_shaft.specs.{lead_of}
+use Rattle.axis_shaft.proofs.{FollowLaws.Following, FollowLaws.walks}
+use Rattle.axis_shaft.proofs.Shaft.follow.Given as goal
+
+abbrev pub invariant-loop-i : goal.invariant-loop-i
+invariant-loop-i l = (l.i ≤ length l.raws) × (length l.raws * 4 < 2 ^ 63) × (length l.positions ≡ length l.initial.positions) × (l.lead ≡ lead_of l.rules) × (nat_abs l.offset < l.rules.span.0)
+    × Following l.rules l.offset l.initial.running l.raws l.running l.i l.positions
+
+abbrev pub decreases-loop-i : goal.decreases-loop-i
+decreases-loop-i l = length l.raws - l.i

@@ -1,0 +1,12 @@
+use Rattle.std.proofs.Common.{rules}
+use Rattle.axis_shaft.proofs.{ShaftLaws.moves}
+use Rattle.axis_shaft.proofs.Shaft.moved_by.Goals as goal
+
+pub advanced-shaft-requires : goal.advanced-shaft-requires
+advanced-shaft-requires c = search (rules, moves)
+
+pub returns-in-By : goal.returns-in-By
+returns-in-By c = search (rules, moves)
+
+pub returns-in-Refused : goal.returns-in-Refused
+returns-in-Refused c = search (rules, moves)

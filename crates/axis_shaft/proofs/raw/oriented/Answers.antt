@@ -1,0 +1,12 @@
+use Rattle.std.proofs.Common.{rules}
+use Rattle.axis_shaft.proofs.{SensorLaws.orients}
+use Rattle.axis_shaft.proofs.raw.oriented.Goals as goal
+
+pub returns-then-raw-eq0 : goal.returns-then-raw-eq0
+returns-then-raw-eq0 c = search (rules, orients)
+
+pub returns-then-rules : goal.returns-then-rules
+returns-then-rules c = search (rules, orients)
+
+pub returns : goal.returns
+returns c = search (rules, orients)
