@@ -1,7 +1,7 @@
 -- The running values are those of a shaft, and what is written and what the readings from the i-th on will write is the whole list.
 use Rattle.std.specs.Prelude.{◌≡◌, ◌≤◌, ◌<◌, ◌-◌, ◌*◌, ◌^◌, nat_abs, length}
 use Rattle.axis_shaft.specs.{lead_of}
-use Rattle.axis_shaft.proofs.{FollowLaws.Following, FollowLaws.walks}
+use Rattle.axis_shaft.proofs.{FollowLaws.Following}
 use Rattle.axis_shaft.proofs.Shaft.follow.Given as goal
 
 abbrev pub invariant-loop-i : goal.invariant-loop-i

@@ -1,7 +1,6 @@
 -- What was found and what the readings from the i-th on will show is what all of them show.
 use Rattle.std.specs.Prelude.{◌≡◌, ◌||◌, ◌≤◌, ◌-◌, ◌/◌, length, drop}
 use Rattle.axis_shaft.specs.{doubtful}
-use Rattle.axis_shaft.proofs.{BatchLaws.looks}
 use Rattle.axis_shaft.proofs.raw.doubtful.Given as goal
 
 abbrev pub invariant-loop-i : goal.invariant-loop-i

@@ -1,8 +1,5 @@
 -- The first refusal of the readings from the i-th on is the first refusal of all.
 use Rattle.std.proofs.Common.{rules}
-use Rattle.std.specs.Prelude.{◌≡◌, ◌≤◌, ◌<◌, ◌-◌, length, drop}
-use Rattle.encoder.specs.{Sound}
-use Rattle.axis_shaft.specs.{refusal_in}
 use Rattle.axis_shaft.proofs.{BatchLaws.checks}
 use Rattle.axis_shaft.proofs.raw.first_refusal.Goals as goal
 

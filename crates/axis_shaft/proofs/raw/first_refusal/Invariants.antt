@@ -2,7 +2,6 @@
 use Rattle.std.specs.Prelude.{◌≡◌, ◌≤◌, ◌<◌, ◌-◌, length, drop}
 use Rattle.encoder.specs.{Sound}
 use Rattle.axis_shaft.specs.{refusal_in}
-use Rattle.axis_shaft.proofs.{BatchLaws.checks}
 use Rattle.axis_shaft.proofs.raw.first_refusal.Given as goal
 
 abbrev pub invariant-loop-i : goal.invariant-loop-i
