@@ -1,7 +1,7 @@
 // What axislog answers to a log (document 01, "The program axislog").
 #![tactic(auto)]
 
-ghost use Rattle.std.specs.Prelude.{◌≡◌, ◌++◌, ◌+◌, ◌≤◌, drop, length, take};
+ghost use Rattle.std.specs.Prelude.{◌≡◌, ◌++◌, ◌+◌, ◌≤◌, length, take};
 ghost use Rattle.integer.specs.{over};
 ghost use Rattle.axislog_answers.specs.{text};
 ghost use Rattle.axislog_core.specs.{answers, call_refusal, line_length, outcome, written};
@@ -57,7 +57,7 @@ fn each_line(input: &[u8], output: &mut [u8]) -> usize
     let mut from = 0;
     let mut at = 0;
     while from < input.len() {
-        let end = line_end(input, from);
+        let end = from + line_length(&input[from..]);
         let reply = state.reply(parse(&input[from..end]));
         let answer = reply.answer;
         at = put(answer, output, at);
@@ -67,14 +67,12 @@ fn each_line(input: &[u8], output: &mut [u8]) -> usize
     at
 }
 
-// Where the line that begins at `from` ends: at its newline, or at the end of the log.
-fn line_end(input: &[u8], from: usize) -> usize
-    requires { from ≤ length input.now }
-    ensures { result ≡ from + line_length (drop from input.now) }
+// The octets of the first line of a text, without its newline.
+fn line_length(text: &[u8]) -> usize
+    ensures value { result ≡ line_length text.now }
+    ensures bound { result ≤ length text.now }
 {
-    let rest = &input[from..];
-    let newline = rest.iter().position(|x| *x == b'\n');
-    from + newline.unwrap_or(rest.len())
+    text.iter().position(|x| *x == b'\n').unwrap_or(text.len())
 }
 
 // Writes the line of an answer, and answers where the next one begins.
