@@ -1,2 +1,2 @@
-pub mod Counts
-pub use Counts.{Counts}
+pub mod Buffer
+pub use Buffer.{Counts}
