@@ -1,7 +1,7 @@
 // The static library for other languages: the functions of the crate exports under their own names. `c/encoder.h` declares them for C.
 #![tactic(auto)]
 
-ghost use Rattle.integer.specs.Base.{◌≡◌};
+ghost use Rattle.std.specs.Prelude.{◌≡◌};
 ghost use Rattle.encoder.specs.{plain_plate};
 ghost use Rattle.parameters_reader.specs.{read_telegram, read_block};
 ghost use Rattle.exports.specs.{parameters_of, take_refusal, taken, run_refusal, ran};

@@ -1,5 +1,5 @@
 -- How much of a buffer was filled.
-use Rattle.integer.specs.Base.{ℕ, ◌≡◌, ◌≤◌, List, length, take}
+use Rattle.std.specs.Prelude.{ℕ, ◌≡◌, ◌≤◌, List, length, take}
 
 -- so many elements at the start of a buffer lie within it, and are as many when they are cut out
 abbrev pub Counts : ℕ → List ℕ → Type 0

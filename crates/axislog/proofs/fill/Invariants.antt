@@ -1,4 +1,4 @@
-use Rattle.integer.specs.Base.{◌-◌, ◌≤◌, length}
+use Rattle.std.specs.Prelude.{◌-◌, ◌≤◌, length}
 use Rattle.axislog.proofs.fill.Given as goal
 
 -- the octets read so far stand at the start of the buffer

@@ -1,4 +1,4 @@
-use Rattle.integer.specs.Base.{◌-◌, ◌≤◌, length}
+use Rattle.std.specs.Prelude.{◌-◌, ◌≤◌, length}
 use Rattle.vectors.proofs.call.numbers.Given as goal
 
 -- the numbers so far are within the buffer

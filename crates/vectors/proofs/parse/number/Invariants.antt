@@ -1,4 +1,4 @@
-use Rattle.integer.specs.Base.{◌-◌, length}
+use Rattle.std.specs.Prelude.{◌-◌, length}
 use Rattle.vectors.proofs.parse.number.Given as goal
 
 -- each turn goes one further

@@ -1,4 +1,4 @@
-use Rattle.integer.specs.Base.{◌-◌, ◌≤◌, length}
+use Rattle.std.specs.Prelude.{◌-◌, ◌≤◌, length}
 use Rattle.vectors.proofs.vector.octets.Given as goal
 
 -- the octets so far are within the buffer
