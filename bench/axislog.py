@@ -2,7 +2,7 @@
 """What axislog costs by the length of the log: instructions (valgrind's callgrind) and time (the best of 50 runs), at 15,000, 30,000 and 60,000
 octets, for four kinds of log. What an empty log costs is taken off, and printed first.
 
-    rt check axislog && python3 bench/axislog.py
+    tools/build axislog && python3 bench/axislog.py
 """
 import os
 import random

@@ -4,7 +4,7 @@ with 1,000 such lines and one without, divided by 1,000. Reading the line and pr
 is in force (calls of `in_force`); printing the position of an axis asks once. The last column has the instructions of `respond`, all of a cycle that
 follows on the raw number.
 
-    rt check vectors && python3 bench/calls.py [PROGRAM]
+    tools/build vectors && python3 bench/calls.py [PROGRAM]
 """
 import os
 import re

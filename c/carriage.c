@@ -1,6 +1,6 @@
 /* Some bench values of document 01 through the linked library: parameters are read from octets, and a batch is read on them.
 
-       rt staticlib exports && cc -o target/carriage c/carriage.c target/staticlib/libexports.a && target/carriage */
+       tools/build exports && cc -o target/carriage c/carriage.c target/staticlib/libexports.a && target/carriage */
 #include <stdio.h>
 
 #include "encoder.h"

@@ -1,4 +1,4 @@
-/* The encoder library for C: target/staticlib/libexports.a, made by `rt staticlib exports`.
+/* The encoder library for C: target/staticlib/libexports.a, made by `tools/build exports`.
 
    Each function answers 0 where the call is taken, and otherwise the number of one refusal (document 01, "When a call is turned away", and
    17 of document 02).

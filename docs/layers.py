@@ -12,7 +12,8 @@ for text in open(sys.argv[1], encoding="utf-8"):
     if text.startswith("# -- "):
         layers.append((text[5:].strip(), []))
     elif ":" in text and not text.startswith("#"):
-        name, rest = text.split(":")
+        head, rest = text.split(":")
+        name = head.split()[0]
         uses[name] = rest.split()
         layers[-1][1].append(name)
 for name in uses:

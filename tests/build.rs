@@ -10,6 +10,6 @@ fn main() {
         println!("cargo::rustc-link-search=native={}", directory.display());
         println!("cargo::rustc-link-lib=static=exports");
     } else {
-        println!("cargo::error={} is missing: run `rt staticlib exports` first", archive.display());
+        println!("cargo::error={} is missing: run `tools/build exports` first", archive.display());
     }
 }

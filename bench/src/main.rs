@@ -1,6 +1,6 @@
 //! The linked batch beside the same work written by hand in Rust, on the same lists, in one run.
 //!
-//!     rt staticlib exports && cargo run --release --manifest-path bench/Cargo.toml
+//!     tools/build exports && cargo run --release --manifest-path bench/Cargo.toml
 //!
 //! prints the time of each hand-written batch by that of the library: above 1 the library is faster. All lists were written and gone through
 //! once before the first time is taken (warm), and every list of positions is compared. Behind `--`, `instructions` counts the

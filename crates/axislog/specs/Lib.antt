@@ -1,3 +1,3 @@
 pub mod Input
-pub use Input.{Within}
+pub use Input.{Counts, Within}
 pub use declared.Input.TheVariants.{Read}

@@ -3,8 +3,16 @@
 
 ghost use Rattle.axislog.specs.{Within};
 
-use axislog_core::{OUTPUT, Outcome, answer};
-use libc::{STDERR_FILENO, STDIN_FILENO, STDOUT_FILENO};
+use axislog_core::{INPUT, OUTPUT, Outcome, answer};
+use std::alloc::AllocError;
+use std::io;
+use std::io::Read;
+use std::process::ExitCode;
+
+// The buffer for the log holds more than the longest one, so that the program notices a longer one.
+const ROOM: usize = 65_536;
+
+const _: () = prove!(INPUT < ROOM);
 
 #[derive(Drop)]
 pub enum Input {
@@ -13,56 +21,47 @@ pub enum Input {
     Failed,
 }
 
-// The buffer holds more than the longest log, so that the program notices a longer one.
-fn main() {
-    let mut input = io::large_buffer();
-    let read = fill(&mut input);
-    let mut output = [0u8; OUTPUT];
-    match read {
-        Input::Read(n) => print(&input[..n], &mut output),
-        Input::Failed => complain(b"axislog: standard input cannot be read\n"),
+fn main(rt: HostRuntime) -> Result<ExitCode, AllocError> {
+    let mut input = vec![in rt.alloc(); 0; ROOM]?;
+    let mut output = vec![in rt.alloc(); 0; OUTPUT]?;
+    match fill(&mut rt.stdin(), &mut input) {
+        Input::Read(n) => Ok(print(&rt, &input[..n], &mut output)),
+        Input::Failed => Ok(complain(&rt, "axislog: standard input cannot be read")),
     }
 }
 
 // Reads until the input ends, a read fails or the buffer is full.
-fn fill(buffer: &mut [u8]) -> Input
+fn fill<R: Read>(input: &mut R, buffer: &mut [u8]) -> Input
     ensures { Within result buffer.new }
 {
     let mut n = 0;
     while n < buffer.len() {
-        let got = libc::read(STDIN_FILENO, &mut buffer[n..]);
-        if got < 0 {
-            return Input::Failed;
+        match input.read(&mut buffer[n..]) {
+            Ok(0) => return Input::Read(n),
+            Ok(more) => n += more,
+            Err(_) => return Input::Failed,
         }
-        let more = io::count(got, &buffer[n..]);
-        if more == 0 {
-            return Input::Read(n);
-        }
-        n += more;
     }
     Input::Read(n)
 }
 
-// The whole array is lent first: its type tells its length.
-fn print(input: &[u8], output: &mut [u8; OUTPUT]) {
-    emit(input, output);
+fn print(rt: &(impl Print + Eprint), input: &[u8], output: &mut [u8]) -> ExitCode {
+    match emit(rt, input, output) {
+        Ok(()) => ExitCode::SUCCESS,
+        Err(_) => complain(rt, "axislog: standard output cannot be written"),
+    }
 }
 
-fn emit(input: &[u8], output: &mut [u8]) {
+fn emit(rt: &impl Print, input: &[u8], output: &mut [u8]) -> io::Result<()> {
     match answer(input, output) {
-        Outcome::Written(n) => write(&output[..n]),
+        Outcome::Written(n) => rt.write_all(&output[..n]),
         // 15: the log is too long. Not 13: the buffer has its length
-        Outcome::Refused(_) => write(b"(refused 15)\n"),
+        Outcome::Refused(_) => rt.write_all(b"(refused 15)\n"),
     }
 }
 
-fn write(text: &[u8]) {
-    if !io::write_all(STDOUT_FILENO, text) {
-        complain(b"axislog: standard output cannot be written\n");
-    }
-}
-
-// A program has no exit status that could tell.
-fn complain(message: &[u8]) {
-    io::write_all(STDERR_FILENO, message);
+// Where standard error cannot be written either, only the exit status tells.
+fn complain(rt: &impl Eprint, message: &str) -> ExitCode {
+    let _ = rt.eprintln(message);
+    ExitCode::FAILURE
 }

@@ -1,3 +1,4 @@
+mod LineLaws
 pub mod RoomLaws
 pub mod LogLaws
 pub mod OutcomeLaws

@@ -1,5 +1,6 @@
 -- The answers to a log, one a line (document 01, "The program axislog").
 use Rattle.std.specs.Prelude.{ℕ, List, [], ◌∷◌, ◌++◌, cond, not, eqb, ltb, length}
+use Rattle.std.specs.List.{position_or_len}
 use Rattle.integer.specs.{over}
 use Rattle.encoder.specs.{no_form, wrong_buffer, when, ◌before◌, answer}
 use Rattle.axislog_forms.specs.{form}
@@ -16,6 +17,10 @@ joined x (l ∷ ls) = (x ∷ l) ∷ ls
 unfoldable pub lines : List ℕ → List (List ℕ)
 lines [] = []
 lines (x ∷ xs) = cond (eqb x 10) ([] ∷ lines xs) (joined x (lines xs))
+
+-- the octets of the first line of a text, without its newline
+abbrev pub line_length : List ℕ → ℕ
+line_length text = position_or_len (λ x. eqb x 10) text
 
 -- the answers to lines, from a state on
 unfoldable pub answers_from : State → List (List ℕ) → List ℕ

@@ -4,12 +4,11 @@
 ghost use Rattle.std.specs.Prelude.{◌≡◌, ◌++◌, ◌+◌, ◌≤◌, length, take};
 ghost use Rattle.integer.specs.{over};
 ghost use Rattle.axislog_answers.specs.{text};
-ghost use Rattle.axislog_core.specs.{answers, call_refusal, outcome, written};
+ghost use Rattle.axislog_core.specs.{answers, call_refusal, line_length, outcome, written};
 
 use axislog_answers::Answer;
 use axislog_forms::parse;
 use axislog_state::State;
-use bytes::scan::find;
 use encoder::refusal;
 use encoder::refusal::{first, when};
 
@@ -58,7 +57,7 @@ fn each_line(input: &[u8], output: &mut [u8]) -> usize
     let mut from = 0;
     let mut at = 0;
     while from < input.len() {
-        let end = find(input, from, input.len(), b'\n');
+        let end = from + line_length(&input[from..]);
         let reply = state.reply(parse(&input[from..end]));
         let answer = reply.answer;
         at = put(answer, output, at);
@@ -68,6 +67,14 @@ fn each_line(input: &[u8], output: &mut [u8]) -> usize
     at
 }
 
+// The octets of the first line of a text, without its newline.
+fn line_length(text: &[u8]) -> usize
+    ensures value { result ≡ line_length text.now }
+    ensures bound { result ≤ length text.now }
+{
+    text.iter().position(|x| *x == b'\n').unwrap_or(text.len())
+}
+
 // Writes the line of an answer, and answers where the next one begins.
 fn put(answer: Answer, output: &mut [u8], at: usize) -> usize
     requires { at + length (text answer) ≤ length output.old }
@@ -75,7 +82,7 @@ fn put(answer: Answer, output: &mut [u8], at: usize) -> usize
         × (output.new ≡ over (take at output.old ++ text answer) output.old) }
 {
     let line = answer.line();
-    let n = line.length;
-    let octets = line.octets;
-    at + bytes::copy(&octets[..n], &mut output[at..])
+    let end = at + line.length;
+    output[at..end].copy_from_slice(&line.octets[..line.length]);
+    end
 }

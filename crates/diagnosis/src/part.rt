@@ -43,8 +43,7 @@ pub(crate) fn fill_versions(plate: Nameplate, part: &mut [u8])
     requires { length part.old ≡ 15 }
     ensures { (part.new ≡ versions plate) × (length (versions plate) ≡ 15) }
 {
-    let software = plate.software;
-    bytes::copy(&software[..], &mut part[9..11]);
+    part[9..11].copy_from_slice(&plate.software);
     // 17 zero, 18 and 19 0001h; 20 to 23 zero, 24 and 25 0101h
     put_number(&mut part[0..3], 0x0001);
     put_number(&mut part[3..9], 0x0101);
@@ -76,7 +75,6 @@ pub(crate) fn fill_identity(plate: Nameplate, part: &mut [u8])
     requires { length part.old ≡ 16 }
     ensures { (part.new ≡ identity plate) × (length (identity plate) ≡ 16) }
 {
-    let serial = plate.serial;
-    bytes::copy(&serial[..], &mut part[0..10]);
+    part[0..10].copy_from_slice(&plate.serial);
     put_number(&mut part[10..16], 0);
 }

@@ -1,5 +1,5 @@
-// The library for other languages: a batch from its start on, and the readers of both classes, on numbers and lent lists. Each function
-// answers 0, or the number of the refusal, and then leaves the lent list as it was. `c/encoder.h` declares them for C. The plate has R, T and
+// The functions for other languages: a batch from its start on, and the readers of both classes, on numbers and lent lists. Each function
+// answers 0, or the number of the refusal, and then leaves the lent list as it was. The crate exports_c hands them to C. The plate has R, T and
 // ident: its other fields have no part in these calls.
 #![tactic(auto)]
 
@@ -20,8 +20,7 @@ use take::take;
 
 // Starts an axis at a first raw number and reads a batch of raw numbers after it. Where `class4` is 0 the parameters are those of class 2, else those
 // of class 4.
-#[unsafe(no_mangle)]
-pub extern "C" fn encoder_batch(
+pub fn encoder_batch(
     steps: u32,
     turns: u32,
     class4: u8,
@@ -43,8 +42,7 @@ pub extern "C" fn encoder_batch(
 }
 
 // Class 2: octet 9, revolution units and total range of a telegram.
-#[unsafe(no_mangle)]
-pub extern "C" fn encoder_read_telegram(
+pub fn encoder_read_telegram(
     steps: u32,
     turns: u32,
     ident: u16,
@@ -59,13 +57,7 @@ pub extern "C" fn encoder_read_telegram(
 }
 
 // Class 4: octet 1, revolution units, total range, sign-of-life limit and speed unit of a block.
-#[unsafe(no_mangle)]
-pub extern "C" fn encoder_read_block(
-    steps: u32,
-    turns: u32,
-    block: &[u8],
-    parameters: &mut [u32],
-) -> u8
+pub fn encoder_read_block(steps: u32, turns: u32, block: &[u8], parameters: &mut [u32]) -> u8
     ensures { (result ≡ take_refusal (plain_plate steps turns 0) 5 (read_block (plain_plate steps turns 0) block.now) parameters.old)
         × (parameters.new ≡ taken (plain_plate steps turns 0) 5 (read_block (plain_plate steps turns 0) block.now) parameters.old) }
 {

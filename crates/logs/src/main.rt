@@ -2,80 +2,40 @@
 // length, also for a log that is too long.
 #![tactic(auto)]
 
-use axislog_core::{OUTPUT, Outcome, answer};
-use libc::STDOUT_FILENO;
+use axislog_core::{INPUT, OUTPUT, Outcome, answer};
+use std::fs::File;
+use std::io::Read;
+use std::{env, io};
 
-fn main() {
-    let mut output = [0u8; 780_001];
-    lend(&mut output);
-}
-
-// The whole array is lent first: its type tells its length.
-fn lend(output: &mut [u8; 780_001]) {
-    all(output);
-}
-
-fn all(output: &mut [u8]) {
-    let count = os::arg_count();
-    let mut i = 1;
-    while i < count {
-        named(i, output);
-        i += 1;
-    }
-    print(b"# a buffer too short, and one too long\n");
-    cut(b"(read 0)\n", output, OUTPUT - 1);
-    cut(b"(read 0)\n", output, OUTPUT + 1);
-    print(b"# a buffer too short, and a log too long\n");
-    let long = [b'('; 60_001];
-    cut(&long, output, OUTPUT - 1);
-}
-
-// The log of argument i.
-fn named(i: usize, output: &mut [u8]) {
-    let mut name = io::buffer();
-    let n = os::arg(i, &mut name);
-    print(b"# ");
-    print(&name[..n]);
-    print(b"\n");
-    let fd = os::open_read(&name[..n]);
-    if fd < 0 {
-        print(b"cannot be opened\n");
-        return;
-    }
-    let mut space = io::large_buffer();
-    let k = io::read_full(fd, &mut space);
-    libc::close(fd);
-    cut(&space[..k], output, OUTPUT);
-}
-
-// Lends so many octets of the buffer.
-fn cut(log: &[u8], output: &mut [u8], size: usize) {
-    if size <= output.len() {
-        run(log, &mut output[..size]);
-    }
-}
-
-fn run(log: &[u8], output: &mut [u8]) {
-    let room = output.len();
-    match answer(log, output) {
-        Outcome::Written(n) => print(&output[..n]),
-        Outcome::Refused(n) => {
-            if room == OUTPUT {
-                // as axislog prints it
-                numbered(b"(refused ", n, b")\n");
-            } else {
-                numbered(b"turned away with ", n, b"\n");
-            }
+fn main(rt: HostRuntime) -> io::Result<()> {
+    for name in env::args(&rt)?.skip(1) {
+        println!(rt; "# {name}")?;
+        match File::open(&rt, &name) {
+            Ok(file) => stored(&rt, file)?,
+            Err(_) => println!(rt; "cannot be opened")?,
         }
     }
+    println!(rt; "# a buffer too short, and one too long")?;
+    run(&rt, b"(read 0)\n", OUTPUT - 1)?;
+    run(&rt, b"(read 0)\n", OUTPUT + 1)?;
+    println!(rt; "# a buffer too short, and a log too long")?;
+    let long = vec![in rt.alloc(); b'('; INPUT + 1]?;
+    run(&rt, &long, OUTPUT - 1)
 }
 
-fn numbered(before: &[u8], n: u8, behind: &[u8]) {
-    print(before);
-    io::print_decimal(STDOUT_FILENO, n as u64);
-    print(behind);
+fn stored(rt: &(impl Print + AllocGlobal), mut file: File) -> io::Result<()> {
+    let mut log = Vec::new(rt.alloc());
+    file.read_to_end(&mut log)?;
+    run(rt, &log, OUTPUT)
 }
 
-fn print(text: &[u8]) {
-    io::write_all(STDOUT_FILENO, text);
+// The answers to a log, or the refusal, where so many octets are lent.
+fn run(rt: &(impl Print + AllocGlobal), log: &[u8], room: usize) -> io::Result<()> {
+    let mut output = vec![in rt.alloc(); 0; room]?;
+    match answer(log, &mut output) {
+        Outcome::Written(n) => rt.write_all(&output[..n]),
+        // as axislog prints it
+        Outcome::Refused(n) if room == OUTPUT => println!(rt; "(refused {n})"),
+        Outcome::Refused(n) => println!(rt; "turned away with {n}"),
+    }
 }

@@ -7,8 +7,9 @@ use cyclic::telegram83::cycle_83;
 use cyclic::{Cycled, cycle};
 use cyclic_link::Link;
 use diagnosis::diagnosis;
+use std::io;
 
-#[derive(Drop)]
+#[derive(Clone, Copy)]
 pub struct Bench {
     pub axis: Axis,
     pub link: Link,
@@ -22,41 +23,41 @@ pub(crate) fn none() -> Bench {
     }
 }
 
-pub(crate) fn run(bench: Bench, word: u8, line: &[u8]) -> Bench {
+pub(crate) fn run(rt: &impl Print, bench: Bench, word: u8, line: &[u8]) -> io::Result<Bench> {
     match word {
-        b'e' | b'm' => exchange(bench, word, line),
-        b'd' => diagnose(bench, line),
-        b'k' => keep(bench, line),
-        _ => called(bench, word, line),
+        b'e' | b'm' => exchange(rt, bench, word, line),
+        b'd' => diagnose(rt, bench, line),
+        b'k' => Ok(keep(bench, line)),
+        _ => called(rt, bench, word, line),
     }
 }
 
 // Any other call. A new axis gets a new link.
-fn called(bench: Bench, word: u8, line: &[u8]) -> Bench {
-    let axis = call::run(bench.axis, word, line);
-    if word == b'a' {
-        let link = Link::quiet();
-        return Bench { axis, link };
-    }
-    let mut next = bench;
-    next.axis = axis;
-    next
+fn called(rt: &impl Print, bench: Bench, word: u8, line: &[u8]) -> io::Result<Bench> {
+    let axis = call::run(rt, bench.axis, word, line)?;
+    let link = if word == b'a' {
+        Link::quiet()
+    } else {
+        bench.link
+    };
+    Ok(Bench { axis, link })
 }
 
 // `exchange`: how many input octets are lent, each of them EEh, the raw number, and the output octets. `measured`, a cycle of telegram 83: the
 // same, with the milliseconds behind the raw number.
-fn exchange(bench: Bench, word: u8, line: &[u8]) -> Bench {
+fn exchange(rt: &impl Print, bench: Bench, word: u8, line: &[u8]) -> io::Result<Bench> {
     let size = decimal(line, 8);
     let raw = decimal(line, size.next);
     let time = elapsed(word, line, raw);
-    let mut output = [0u8; 64];
+    let mut output = [0; 64];
     let n = octets(line, time.next, &mut output);
     let m = size.value as usize;
     let mut input = [0xee; 64];
     if 64 < m {
-        return bench;
+        return Ok(bench);
     }
     cycled(
+        rt,
         bench,
         word,
         raw.value,
@@ -74,12 +75,20 @@ fn elapsed(word: u8, line: &[u8], raw: Parsed) -> Parsed {
     raw
 }
 
-fn cycled(bench: Bench, word: u8, raw: u32, time: u32, output: &[u8], input: &mut [u8]) -> Bench {
+fn cycled(
+    rt: &impl Print,
+    bench: Bench,
+    word: u8,
+    raw: u32,
+    time: u32,
+    output: &[u8],
+    input: &mut [u8],
+) -> io::Result<Bench> {
     let next = run_cycle(bench, word, raw, time, output, input);
-    answer::cycled(next, input);
+    answer::cycled(rt, next, input)?;
     let axis = next.axis;
     let link = next.link;
-    Bench { axis, link }
+    Ok(Bench { axis, link })
 }
 
 fn run_cycle(
@@ -104,19 +113,19 @@ fn run_cycle(
 }
 
 // `diagnose`: how many octets are lent, each of them EEh.
-fn diagnose(bench: Bench, line: &[u8]) -> Bench {
+fn diagnose(rt: &impl Print, bench: Bench, line: &[u8]) -> io::Result<Bench> {
     let size = decimal(line, 8);
     let n = size.value as usize;
     let mut buffer = [0xee; 64];
     if n <= 64 {
-        fill(bench, &mut buffer[..n]);
+        fill(rt, bench, &mut buffer[..n])?;
     }
-    bench
+    Ok(bench)
 }
 
-fn fill(bench: Bench, buffer: &mut [u8]) {
+fn fill(rt: &impl Print, bench: Bench, buffer: &mut [u8]) -> io::Result<()> {
     let answer = diagnosis(bench.axis, bench.link, buffer);
-    answer::diagnosed(answer, buffer);
+    answer::diagnosed(rt, answer, buffer)
 }
 
 // `keep`: a link that is brought: faulty, requested, error, acknowledged, executed, due, 1 or 0; counter and expected value; and the code, hexadecimal. A figure
@@ -142,7 +151,6 @@ fn keep(bench: Bench, line: &[u8]) -> Bench {
         expected: expected.value,
         code: code.value,
     };
-    let mut brought = bench;
-    brought.link = link;
-    brought
+    let axis = bench.axis;
+    Bench { axis, link }
 }

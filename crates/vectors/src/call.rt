@@ -1,6 +1,6 @@
 // Calls on an axis, a line for each: a word of eight columns, and the numbers that the call takes, decimal but for the octet of the
 // parameters. `axis  2` and `axis  4` bring a nameplate and parameters, and `given` the numbers of a record.
-ghost use Rattle.io.{specs.Counts.Counts};
+ghost use Rattle.vectors.specs.{Counts};
 
 use crate::answer;
 use crate::lent::lent;
@@ -13,36 +13,36 @@ use axis_velocity::velocity;
 use encoder::nameplate::Nameplate;
 use encoder::parameters::Parameters;
 use encoder::quantity::{Steps, Turns, Units};
+use std::io;
 
 // Makes the call, and yields the axis that it leaves. `number` is a reading by its raw number, `preset` an absolute and `change` a relative
 // preset, `hold` sets the held preset value.
-pub(crate) fn run(axis: Axis, word: u8, line: &[u8]) -> Axis {
+pub(crate) fn run(rt: &impl Print, axis: Axis, word: u8, line: &[u8]) -> io::Result<Axis> {
     match word {
-        b'a' => described(line),
-        b'g' => given(axis, line),
-        b'f' => answered(first(axis, line)),
-        b'r' => reading(axis, line),
-        b'n' => answered(axis.read_raw(decimal(line, 8).value)),
-        b'p' => answered(axis.preset(signed(line, 8).value, false)),
-        b'c' => answered(axis.preset(signed(line, 8).value, true)),
-        b'h' => answered(axis.store(signed(line, 8).value)),
-        b'l' => list(axis, line),
-        b'v' => fast(axis, line),
-        b's' => serial(axis, line),
-        _ => axis,
+        b'a' => Ok(described(line)),
+        b'g' => Ok(given(axis, line)),
+        b'f' => answered(rt, first(axis, line)),
+        b'r' => reading(rt, axis, line),
+        b'n' => answered(rt, axis.read_raw(decimal(line, 8).value)),
+        b'p' => answered(rt, axis.preset(signed(line, 8).value, false)),
+        b'c' => answered(rt, axis.preset(signed(line, 8).value, true)),
+        b'h' => answered(rt, axis.store(signed(line, 8).value)),
+        b'l' => list(rt, axis, line),
+        b'v' => fast(rt, axis, line),
+        b's' => Ok(serial(axis, line)),
+        _ => Ok(axis),
     }
 }
 
-fn answered(next: Next) -> Axis {
-    answer::next(next);
-    next.axis
+fn answered(rt: &impl Print, next: Next) -> io::Result<Axis> {
+    answer::next(rt, next)?;
+    Ok(next.axis)
 }
 
 // `axis  2` and `axis  4`: a nameplate and parameters, not started.
 fn described(line: &[u8]) -> Axis {
     let head = nameplate(line);
-    let plate = head.plate;
-    fresh(plate, parameters(line, head.next))
+    fresh(head.plate, parameters(line, head.next))
 }
 
 // Before the first line that describes an axis: a record that every call refuses.
@@ -103,62 +103,61 @@ fn serial(axis: Axis, line: &[u8]) -> Axis {
 fn first(axis: Axis, line: &[u8]) -> Next {
     let step = decimal(line, 8);
     let turn = decimal(line, step.next);
-    let plate = axis.nameplate;
-    let parameters = axis.parameters;
     Axis::start(
-        plate,
-        parameters,
+        axis.nameplate,
+        axis.parameters,
         Steps(step.value as u64),
         Turns(turn.value),
     )
 }
 
 // `reading`: a step and a turn, made both ways, by value and through a lent record.
-fn reading(axis: Axis, line: &[u8]) -> Axis {
+fn reading(rt: &impl Print, axis: Axis, line: &[u8]) -> io::Result<Axis> {
     let step = decimal(line, 8);
     let turn = decimal(line, step.next);
     let s = Steps(step.value as u64);
     let t = Turns(turn.value);
-    compared(axis.read(s, t), lent(axis, s, t))
+    compared(rt, axis.read(s, t), lent(axis, s, t))
 }
 
 // The answer by value, and `differs` below it where the other is not the same.
-fn compared(next: Next, other: Next) -> Axis {
-    answer::next(next);
+fn compared(rt: &impl Print, next: Next, other: Next) -> io::Result<Axis> {
+    answer::next(rt, next)?;
     if !same(next, other) {
-        answer::line(b"  differs");
+        println!(rt; "  differs")?;
     }
-    next.axis
+    Ok(next.axis)
 }
 
 // `velocity`: a step, a turn, and the milliseconds since the last reading.
-fn fast(axis: Axis, line: &[u8]) -> Axis {
+fn fast(rt: &impl Print, axis: Axis, line: &[u8]) -> io::Result<Axis> {
     let step = decimal(line, 8);
     let turn = decimal(line, step.next);
     let elapsed = decimal(line, turn.next);
     let e = (elapsed.value % 65536) as u16;
-    answer::speed(velocity(axis, Steps(step.value as u64), Turns(turn.value), e));
-    axis
+    let speed = velocity(axis, Steps(step.value as u64), Turns(turn.value), e);
+    answer::speed(rt, speed)?;
+    Ok(axis)
 }
 
 // `list`: how many positions are lent, each of them 7, and the raw numbers.
-fn list(axis: Axis, line: &[u8]) -> Axis {
+fn list(rt: &impl Print, axis: Axis, line: &[u8]) -> io::Result<Axis> {
     let size = decimal(line, 8);
-    let mut raws = [0u32; 64];
+    let mut raws = [0; 64];
     let n = numbers(line, size.next, &mut raws);
     let m = size.value as usize;
-    let mut positions = [7u32; 64];
+    let mut positions = [7; 64];
     if 64 < m {
-        return axis;
+        return Ok(axis);
     }
-    batch(axis, &raws[..n], &mut positions[..m])
+    batch(rt, axis, &raws[..n], &mut positions[..m])
 }
 
-fn batch(axis: Axis, raws: &[u32], positions: &mut [u32]) -> Axis {
+fn batch(rt: &impl Print, axis: Axis, raws: &[u32], positions: &mut [u32]) -> io::Result<Axis> {
     let next = axis_batch::batch(axis, raws, positions);
-    answer::next(next);
-    answer::positions(positions);
-    next.axis
+    answer::next(rt, next)?;
+    answer::positions(rt, positions)?;
+    Ok(next.axis)
 }
 
 // Writes the numbers of a line to the front of out, and answers how many there are.

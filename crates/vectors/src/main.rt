@@ -10,23 +10,18 @@ mod parse;
 mod same;
 mod vector;
 
-use bytes::scan::find;
-use libc::STDIN_FILENO;
+use std::io;
+use std::io::{BufRead, BufReader, Read};
 
-// Reads the lines, 262,144 octets at the most.
-fn main() {
-    let mut space = [0u8; 262144];
-    let n = io::read_full(STDIN_FILENO, &mut space);
-    lines(&space[..n]);
-}
+// The octets that are read at the most.
+const INPUT: u64 = 262_144;
 
 // A line works on the axis and the link that the line before left.
-fn lines(text: &[u8]) {
+fn main(rt: HostRuntime) -> io::Result<()> {
     let mut bench = bench::none();
-    let mut at = 0;
-    while at < text.len() {
-        let end = find(text, at, text.len(), b'\n');
-        bench = vector::run(bench, &text[at..end]);
-        at = end + 1;
+    let input = BufReader::new(rt.alloc(), rt.stdin().take(INPUT))?;
+    for line in input.split(rt.alloc(), b'\n') {
+        bench = vector::run(&rt, bench, &line?)?;
     }
+    Ok(())
 }

@@ -5,45 +5,24 @@ use encoder::nameplate::Nameplate;
 use encoder::parameters::Parameters;
 
 pub(crate) fn same(a: Next, b: Next) -> bool {
-    let axis_a = a.axis;
-    let axis_b = b.axis;
-    (a.refusal == b.refusal) & axes(axis_a, axis_b)
+    (a.refusal == b.refusal) & axes(a.axis, b.axis)
 }
 
 fn axes(a: Axis, b: Axis) -> bool {
-    let plate_a = a.nameplate;
-    let plate_b = b.nameplate;
-    let sent_a = a.parameters;
-    let sent_b = b.parameters;
-    let shaft_a = a.shaft;
-    let shaft_b = b.shaft;
-    plates(plate_a, plate_b)
-        & parameters(sent_a, sent_b)
-        & shafts(shaft_a, shaft_b)
+    plates(a.nameplate, b.nameplate)
+        & parameters(a.parameters, b.parameters)
+        & shafts(a.shaft, b.shaft)
         & (a.offset == b.offset)
         & (a.preset == b.preset)
         & (a.stored == b.stored)
 }
 
 fn plates(a: Nameplate, b: Nameplate) -> bool {
-    let software_a = a.software;
-    let software_b = b.software;
-    let serial_a = a.serial;
-    let serial_b = b.serial;
     (a.steps.0 == b.steps.0)
         & (a.turns.0 == b.turns.0)
         & (a.ident == b.ident)
-        & versions(software_a, software_b)
-        & serials(serial_a, serial_b)
-}
-
-// The arrays are parameters, since the check does not know the length of an array in a copied field.
-fn versions(a: [u8; 2], b: [u8; 2]) -> bool {
-    check::same(&a, &b)
-}
-
-fn serials(a: [u8; 10], b: [u8; 10]) -> bool {
-    check::same(&a, &b)
+        & (a.software == b.software)
+        & (a.serial == b.serial)
 }
 
 fn parameters(a: Parameters, b: Parameters) -> bool {

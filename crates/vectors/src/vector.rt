@@ -1,6 +1,6 @@
 // One vector a line: a word of eight columns for what is called, R, T and the ident number of the nameplate, and what it is called on.
 // Octets and the ident number are hexadecimal, other numbers decimal.
-ghost use Rattle.io.{specs.Counts.Counts};
+ghost use Rattle.vectors.specs.{Counts};
 
 use crate::bench::Bench;
 use crate::parse::{decimal, hexadecimal, past_blanks};
@@ -10,51 +10,57 @@ use encoder::parameters::Parameters;
 use encoder::quantity::Units;
 use parameters_reader::{read_block, read_telegram};
 use parameters_writer::write_parameters;
+use std::io;
 
 // Writes the line, and below it the answer. Yields the axis and the link that it leaves.
-pub(crate) fn run(bench: Bench, line: &[u8]) -> Bench {
-    answer::line(line);
+pub(crate) fn run(rt: &impl Print, bench: Bench, line: &[u8]) -> io::Result<Bench> {
+    answer::line(rt, line)?;
     if line.len() < 8 {
-        return bench;
+        return Ok(bench);
     }
     let word = line[0];
     match word {
-        b't' | b'b' => read(word, line),
-        b'w' => write(line),
+        b't' | b'b' => read(rt, word, line)?,
+        b'w' => write(rt, line)?,
         _ => {}
     }
-    bench::run(bench, word, line)
+    bench::run(rt, bench, word, line)
 }
 
 // `telegram` and `block`: the octets of a class 2 telegram or of a class 4 block, to be read.
-fn read(word: u8, line: &[u8]) {
+fn read(rt: &impl Print, word: u8, line: &[u8]) -> io::Result<()> {
     let head = nameplate(line);
     let plate = head.plate;
-    let mut buffer = [0u8; 64];
+    let mut buffer = [0; 64];
     let n = octets(line, head.next, &mut buffer);
     if word == b't' {
-        answer::received(plate, read_telegram(plate, &buffer[..n]));
+        answer::received(rt, plate, read_telegram(plate, &buffer[..n]))
     } else {
-        answer::received(plate, read_block(plate, &buffer[..n]));
+        answer::received(rt, plate, read_block(plate, &buffer[..n]))
     }
 }
 
 // `write 2` and `write 4`: the length of a buffer that holds EEh, and the fields in the order of the telegram or the block, to be written.
-fn write(line: &[u8]) {
+fn write(rt: &impl Print, line: &[u8]) -> io::Result<()> {
     let head = nameplate(line);
-    let plate = head.plate;
     let size = decimal(line, head.next);
     let parameters = parameters(line, size.next);
     let n = size.value as usize;
     let mut buffer = [0xee; 64];
-    if n <= 64 {
-        fill(plate, parameters, &mut buffer[..n]);
+    if 64 < n {
+        return Ok(());
     }
+    fill(rt, head.plate, parameters, &mut buffer[..n])
 }
 
-fn fill(plate: Nameplate, parameters: Parameters, buffer: &mut [u8]) {
+fn fill(
+    rt: &impl Print,
+    plate: Nameplate,
+    parameters: Parameters,
+    buffer: &mut [u8],
+) -> io::Result<()> {
     let answer = write_parameters(plate, parameters, buffer);
-    answer::written(answer, buffer);
+    answer::written(rt, answer, buffer)
 }
 
 // The class is the digit at column 6, of `write 2` and `axis  2`.
@@ -81,7 +87,7 @@ pub(crate) fn parameters(line: &[u8], from: usize) -> Parameters {
 }
 
 // The nameplate of a line, and where the numbers behind it are looked for.
-#[derive(Drop)]
+#[derive(Clone, Copy)]
 pub struct Plated {
     pub plate: Nameplate,
     pub next: usize,
