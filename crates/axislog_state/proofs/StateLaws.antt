@@ -6,7 +6,7 @@ use Rattle.std.specs.Int.{w8, w64}
 use mir.Val.{Fits, SFits, to_z, of_z, bool_byte}
 use Rattle.integer.specs.{at}
 use Rattle.integer.proofs.{reads, flag-lt, at-is}
-use Rattle.encoder.specs.{Nameplate, Parameters, Class2, Units, answer, refusal_on}
+use Rattle.encoder.specs.{Nameplate, Parameters, Class2, Units, refusal_on}
 use Rattle.encoder.proofs.{answer-no}
 use Rattle.axis_shaft.specs.{nowhere, Reported, At as Found, declared.Reported.TheVariants.Refused as Outside}
 use Rattle.axis.specs.{Axis, Next, reported, fresh, start_raw, read_raw, preset as preset_on}
