@@ -6,8 +6,8 @@ use Rattle.exports.proofs.run.run.Goals as goal
 
 pub returns-then-n-ne0 : goal.returns-then-n-ne0
 unfolding ran
-returns-then-n-ne0 c = search (rules, running)
+returns-then-n-ne0 c = (as_number _ _ (search (rules, running)), search (rules, running))
 
 pub returns : goal.returns
 unfolding ran
-returns c = search (rules, running)
+returns c = (as_number _ _ (search (rules, running)), search (rules, running))
