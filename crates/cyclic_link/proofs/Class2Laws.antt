@@ -1,5 +1,4 @@
 -- Class 2: the next link and the preset. The value is a mask of 31 bits, which is a remainder.
-pub use borrow.Author.Rules.{rules}
 use Rattle.std.specs.Prelude.{◌≡◌, Bool, true, false, not, ◌&&◌, ◌||◌, ℕ, ◌^◌, ◌<◌, ltb}
 use Rattle.std.proofs.Common.{arith, ltb-true}
 use Rattle.std.specs.Int.Bits.{bit_and}
