@@ -1,9 +1,8 @@
 -- The calls yield it one after the other: the raw number with NIST_B, what follows on it, and the octets of NIST_B behind the twelve.
+use Rattle.std.proofs.Common.{rules}
 use Rattle.std.proofs.Common.{arith, length-take, length-drop}
 use Rattle.cyclic.proofs.Telegram83Laws.{next-fields, answer-83, octets-83}
-use Rattle.cyclic.proofs.CycleLaws.{needs}
-use Rattle.cyclic.proofs.telegram83.exchange.Statement.{statement}
-use Rattle.cyclic.proofs.telegram83.exchange.Tie.{close, spec, Need-respond-requires, Need-returns}
+use Rattle.cyclic.proofs.telegram83.exchange.Goals as goal
 
 respond-requires : Need-respond-requires
 respond-requires c κs =
@@ -27,7 +26,8 @@ returns c =
       octets-83 _ _ p.0 _ _ _ _ _ p.1 p.3 _ p.2 _ m.measure.ensures.0 _ w.respond.ensures.0 s.args.input.now _ _ p.6 w.respond.ensures.1 v.put-velocity.ensures,
     )
 
-pub exchange-spec : {M : Type 1} → statement M
-exchange-spec = close (spec
-    (λ c κs. search needs) (λ c. search needs) (λ c. search needs) (λ c. search needs) respond-requires (λ c. search needs) (λ c. search needs) (λ c. search needs)
-    (λ c κs. search needs) (λ c. search needs) returns)
+pub respond-done-requires : goal.respond-done-requires
+respond-done-requires c = search rules
+
+pub returns : goal.returns
+returns c = search rules

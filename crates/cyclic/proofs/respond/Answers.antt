@@ -1,7 +1,7 @@
 -- The calls yield it one after the other: the word, the reaction, the preset and the input.
-use Rattle.cyclic.proofs.CycleLaws.{preset-possible, left-fields, left-standing, done-answer, done-input, needs}
-use Rattle.cyclic.proofs.respond.Statement.{statement}
-use Rattle.cyclic.proofs.respond.Tie.{close, spec, Need-preset-requires, Need-fill-requires, Need-returns}
+use Rattle.std.proofs.Common.{rules}
+use Rattle.cyclic.proofs.CycleLaws.{preset-possible, left-fields, left-standing, done-answer, done-input}
+use Rattle.cyclic.proofs.respond.Goals as goal
 
 preset-requires : Need-preset-requires
 preset-requires c κs =
@@ -35,5 +35,8 @@ returns c =
       done-input t.args.life _ t.args.link _ t.args.fields t.args.next p.0 _ g.control-of.ensures _ e.react.ensures _ d.preset.ensures _ f.fill.ensures,
     )
 
-pub respond-spec : {M : Type 1} → statement M
-respond-spec = close (spec (λ c κs. search needs) (λ c κs. search needs) preset-requires fill-requires (λ c. search needs) returns)
+pub preset-after-requires : goal.preset-after-requires
+preset-after-requires c = search rules
+
+pub fill-requires : goal.fill-requires
+fill-requires c = search rules

@@ -1,0 +1,6 @@
+use Rattle.std.proofs.Common.{rules}
+use Rattle.diagnosis.proofs.{PartLaws.parts}
+use Rattle.diagnosis.proofs.part.fill_values.Goals as goal
+
+pub returns : goal.returns
+returns c = search (rules, parts)
