@@ -5,8 +5,8 @@ use Rattle.cyclic.proofs.cycle.Goals as goal
 
 pub run-requires : goal.run-requires
 unfolding cycle_refusal cycle cycle_input
-run-requires c = search (rules, ready_of, outside-answer)
+run-requires c = search (rules, ready_of)
 
 pub returns-in-Refused : goal.returns-in-Refused
 unfolding cycle_refusal cycle cycle_input
-returns-in-Refused c = search (rules, ready_of, outside-answer)
+returns-in-Refused c = search (rules, outside-answer)

@@ -1,4 +1,3 @@
-use Rattle.std.proofs.Common.{rules}
 use Rattle.cyclic.specs.{length_refusal}
 use Rattle.cyclic.proofs.length_refusal.Goals as goal
 
