@@ -4,7 +4,7 @@ use Rattle.std.specs.Prelude.{refl, List, [], ◌∷◌, ℤ}
 use Rattle.encoder.specs.{refusal_on}
 use Rattle.axislog_forms.specs.{Form, Axis, Read, Preset, Nothing, form}
 use Rattle.axislog_state.specs.{State, plate_of, parameters_of, unstarted, empty, ready, set_up, read, preset, reply}
-use Rattle.axislog_accuracy.specs.{Heard, device, Book, none, waiting, kept, ready as due_ready, due, Moves, Printed, Claim, axislog}
+use Rattle.axislog_accuracy.specs.{Heard, device, Book, none, waiting, kept, ready as due_ready, due, booked, Moves, Printed, Claim, axislog}
 use Rattle.axislog_accuracy.proofs.{Beside.Beside, Beside.Done, Beside.by_number, Calls.read_done, Calls.preset-done, First.first_done}
 
 -- ---- any line
@@ -24,7 +24,11 @@ line-done s (Preset v) (kept d l) m h w = rw h.0 (preset-done d l s.axis h.1 m v
 all : (s : State) (b : Book) (es : List Heard) → Beside s b → Printed axislog s b es
 unfolding Printed
 all s b [] h = tt
-all s b (e ∷ es) h = λ w. let x = line-done s (form e.line) b e.steps h w in (x.0, all _ _ es x.1)
+all s b (e ∷ es) h =
+    λ w.
+      let f = form e.line in
+      let x = line-done s f b e.steps h w in
+      (x.0, all (reply s f).state (booked (due f b) b e.steps (reply s f).answer) es x.1)
 
 pub printed : Claim axislog
 unfolding unstarted

@@ -34,8 +34,8 @@ module _ (w : Life) (k : Link) (off : w.on ≡ false) (limits : within w k ≡ t
       by false = refl
 
   -- ---- the error of a cycle
-  code_by : (faulty park acknowledge : Bool) → code_by k false faulty park acknowledge ≡ cond (Former.held_by (Former.rest k) faulty park acknowledge) 1 0
-  code_by faulty park acknowledge = rw code_is (by k.error (k.acknowledged && not acknowledge) faulty park)
+  code-by : (faulty park acknowledge : Bool) → code_by k false faulty park acknowledge ≡ cond (Former.held_by (Former.rest k) faulty park acknowledge) 1 0
+  code-by faulty park acknowledge = rw code_is (by k.error (k.acknowledged && not acknowledge) faulty park)
     where
       by : (e c f p : Bool) → let arises = e || (f && not p) in
           ◌≡◌ {A = ℕ} (cond (c && not (f || false)) 0 (cond e (cond e 1 0) (cond (f && not p) 1 0))) (cond (cond c (arises && f) arises) 1 0)
@@ -52,7 +52,7 @@ module _ (w : Life) (k : Link) (off : w.on ≡ false) (limits : within w k ≡ t
   held-is : (faulty : Bool) (word : ℕ) → held k false faulty word ≡ Former.held (Former.rest k) faulty word
   unfolding code Former.held
   held-is faulty word =
-      rw (code_by faulty (Class4.parked word) (Class4.acknowledges word)) (by (Former.held_by (Former.rest k) faulty (Class4.parked word) (Class4.acknowledges word)))
+      rw (code-by faulty (Class4.parked word) (Class4.acknowledges word)) (by (Former.held_by (Former.rest k) faulty (Class4.parked word) (Class4.acknowledges word)))
     where
       by : (h : Bool) → not (eqb (cond h 1 0) 0) ≡ h
       by true = refl
