@@ -18,7 +18,7 @@ import sys
 SUFFIX = (".antt", ".rt", ".md", ".py", ".log", ".txt")
 PLAIN = {"vectors/stdin", "vectors/stdout", "axislog/stdin", "axislog/stdout", "logs/stdout", "logs/args"}
 # words in backticks that are not names of the repository: words of the languages, and patterns for places
-WORDS = {"r ≡ ..", "now (.. .exit) ≡ ..", "ensures", "pub fn", "i64", "u16", "[]", "src/", "specs/", "proofs/", "crates/", "docs/", "model/", "name", "path"}
+WORDS = {"result ≡ ..", ".. .new ≡ ..", "ensures", "pub fn", "i64", "u16", "[]", "src/", "specs/", "proofs/", "crates/", "docs/", "model/", "name", "path"}
 
 
 def path_of(root, token):
