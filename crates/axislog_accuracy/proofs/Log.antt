@@ -26,9 +26,9 @@ unfolding Printed
 all s b [] h = tt
 all s b (e ∷ es) h =
     λ w.
-      let f = form e.line in
-      let x = line-done s f b e.steps h w in
-      (x.0, all (reply s f).state (booked (due f b) b e.steps (reply s f).answer) es x.1)
+    let f = form e.line in
+    let x = line-done s f b e.steps h w in
+    (x.0, all (reply s f).state (booked (due f b) b e.steps (reply s f).answer) es x.1)
 
 pub printed : Claim axislog
 unfolding unstarted
