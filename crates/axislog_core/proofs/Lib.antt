@@ -2,4 +2,4 @@ mod LineLaws
 pub mod RoomLaws
 pub mod LogLaws
 pub mod OutcomeLaws
-pub use OutcomeLaws.{takings}
+pub use OutcomeLaws.{answers-cut, answers-in}

@@ -30,5 +30,3 @@ module _ (input out out' : List ℕ) (r : Outcome) (n : ℕ) (v : r ≡ Written 
 
   pub answers-cut : n ≡ length (take n out')
   answers-cut = sym (length-take-le n out' answers-in)
-
-pub ruleset takings = (answers-in, answers-cut)

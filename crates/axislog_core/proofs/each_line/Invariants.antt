@@ -1,6 +1,6 @@
 -- What is written and the answers to come make up all answers.
 use Rattle.std.specs.Prelude.{◌≡◌, ◌-◌, length}
-use Rattle.axislog_core.proofs.{LogLaws.Running, LogLaws.logs}
+use Rattle.axislog_core.proofs.{LogLaws.Running}
 use Rattle.axislog_core.proofs.each_line.Given as goal
 
 abbrev pub invariant-loop-from : goal.invariant-loop-from
