@@ -1,5 +1,4 @@
 use Rattle.std.proofs.Common.{rules}
-use Rattle.std.proofs.Common.{arith, length-set}
 use Rattle.diagnosis.proofs.{PartLaws.parts}
 use Rattle.diagnosis.proofs.part.fill_general.Goals as goal
 

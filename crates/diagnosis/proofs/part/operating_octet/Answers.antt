@@ -6,7 +6,7 @@ use Rattle.diagnosis.proofs.part.operating_octet.Goals as goal
 
 pub returns-then-fields : goal.returns-then-fields
 unfolding operating_octet
-returns-then-fields c = search rules
+returns-then-fields c = rw c.if-fields.true (masked c.args.fields.operating)
 
 pub returns : goal.returns
 unfolding operating_octet
