@@ -4,7 +4,6 @@
 ghost use Rattle.axislog.specs.{Within};
 
 use axislog_core::{INPUT, OUTPUT, Outcome, answer};
-use std::alloc::AllocError;
 use std::io;
 use std::io::Read;
 use std::process::ExitCode;
@@ -21,12 +20,17 @@ pub enum Input {
     Failed,
 }
 
-fn main(rt: HostRuntime) -> Result<ExitCode, AllocError> {
-    let mut input = vec![in rt.alloc(); 0; ROOM]?;
-    let mut output = vec![in rt.alloc(); 0; OUTPUT]?;
-    match fill(&mut rt.stdin(), &mut input) {
-        Input::Read(n) => Ok(print(&rt, &input[..n], &mut output)),
-        Input::Failed => Ok(complain(&rt, "axislog: standard input cannot be read")),
+fn main(rt: HostRuntime) -> ExitCode {
+    let mut input = [0u8; ROOM];
+    let mut output = [0u8; OUTPUT];
+    run(&rt, &mut input, &mut output)
+}
+
+// The whole arrays are lent first: their types tell their lengths.
+fn run(rt: &HostRuntime, input: &mut [u8; ROOM], output: &mut [u8; OUTPUT]) -> ExitCode {
+    match fill(&mut rt.stdin(), input) {
+        Input::Read(n) => print(rt, &input[..n], output),
+        Input::Failed => complain(rt, "axislog: standard input cannot be read"),
     }
 }
 

@@ -2,37 +2,73 @@
 // length, also for a log that is too long.
 #![tactic(auto)]
 
-use axislog_core::{INPUT, OUTPUT, Outcome, answer};
+ghost use Rattle.std.specs.Prelude.{◌≤◌, length};
+
+use axislog_core::{OUTPUT, Outcome, answer};
 use std::fs::File;
 use std::io::Read;
 use std::{env, io};
 
 fn main(rt: HostRuntime) -> io::Result<()> {
-    for name in env::args(&rt)?.skip(1) {
+    let mut output = [0u8; 780_001];
+    all(&rt, &mut output)
+}
+
+// The whole array is lent first: its type tells its length.
+fn all(rt: &HostRuntime, output: &mut [u8; 780_001]) -> io::Result<()> {
+    for name in env::args(rt)?.skip(1) {
         println!(rt; "# {name}")?;
-        match File::open(&rt, &name) {
-            Ok(file) => stored(&rt, file)?,
+        match File::open(rt, &name) {
+            Ok(file) => stored(rt, file, &mut output[..OUTPUT])?,
             Err(_) => println!(rt; "cannot be opened")?,
         }
     }
     println!(rt; "# a buffer too short, and one too long")?;
-    run(&rt, b"(read 0)\n", OUTPUT - 1)?;
-    run(&rt, b"(read 0)\n", OUTPUT + 1)?;
+    run(rt, b"(read 0)\n", &mut output[..OUTPUT - 1])?;
+    run(rt, b"(read 0)\n", output)?;
     println!(rt; "# a buffer too short, and a log too long")?;
-    let long = vec![in rt.alloc(); b'('; INPUT + 1]?;
-    run(&rt, &long, OUTPUT - 1)
+    let long = [b'('; 60_001];
+    too_long(rt, &long, &mut output[..OUTPUT - 1])
 }
 
-fn stored(rt: &(impl Print + AllocGlobal), mut file: File) -> io::Result<()> {
-    let mut log = Vec::new(rt.alloc());
-    file.read_to_end(&mut log)?;
-    run(rt, &log, OUTPUT)
+fn too_long(rt: &impl Print, long: &[u8; 60_001], output: &mut [u8]) -> io::Result<()> {
+    run(rt, long, output)
 }
 
-// The answers to a log, or the refusal, where so many octets are lent.
-fn run(rt: &(impl Print + AllocGlobal), log: &[u8], room: usize) -> io::Result<()> {
-    let mut output = vec![in rt.alloc(); 0; room]?;
-    match answer(log, &mut output) {
+fn stored(rt: &impl Print, mut file: File, output: &mut [u8]) -> io::Result<()> {
+    let mut space = [0u8; 65_536];
+    read(rt, &mut file, &mut space, output)
+}
+
+fn read(
+    rt: &impl Print,
+    file: &mut File,
+    space: &mut [u8; 65_536],
+    output: &mut [u8],
+) -> io::Result<()> {
+    let n = fill(file, space);
+    run(rt, &space[..n], output)
+}
+
+// Reads until the file ends, a read fails or the buffer is full.
+fn fill<R: Read>(file: &mut R, buffer: &mut [u8]) -> usize
+    ensures { result ≤ length buffer.new }
+{
+    let mut n = 0;
+    while n < buffer.len() {
+        match file.read(&mut buffer[n..]) {
+            Ok(0) => return n,
+            Ok(more) => n += more,
+            Err(_) => return n,
+        }
+    }
+    n
+}
+
+// The answers to a log, or the refusal.
+fn run(rt: &impl Print, log: &[u8], output: &mut [u8]) -> io::Result<()> {
+    let room = output.len();
+    match answer(log, output) {
         Outcome::Written(n) => rt.write_all(&output[..n]),
         // as axislog prints it
         Outcome::Refused(n) if room == OUTPUT => println!(rt; "(refused {n})"),

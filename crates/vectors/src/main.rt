@@ -2,6 +2,8 @@
 // the same lines, each with its expected answer.
 #![tactic(auto)]
 
+ghost use Rattle.vectors.specs.{Counts};
+
 mod answer;
 mod bench;
 mod call;
@@ -11,17 +13,44 @@ mod same;
 mod vector;
 
 use std::io;
-use std::io::{BufRead, BufReader, Read};
+use std::io::Read;
 
 // The octets that are read at the most.
-const INPUT: u64 = 262_144;
+const INPUT: usize = 262_144;
+
+fn main(rt: HostRuntime) -> io::Result<()> {
+    let mut space = [0u8; INPUT];
+    let n = fill(&mut rt.stdin(), &mut space);
+    lines(&rt, &space[..n])
+}
+
+// Reads until the input ends, a read fails or the buffer is full.
+fn fill<R: Read>(input: &mut R, buffer: &mut [u8]) -> usize
+    ensures { Counts result buffer.new }
+{
+    let mut n = 0;
+    while n < buffer.len() {
+        match input.read(&mut buffer[n..]) {
+            Ok(0) => return n,
+            Ok(more) => n += more,
+            Err(_) => return n,
+        }
+    }
+    n
+}
 
 // A line works on the axis and the link that the line before left.
-fn main(rt: HostRuntime) -> io::Result<()> {
+fn lines(rt: &impl Print, text: &[u8]) -> io::Result<()> {
     let mut bench = bench::none();
-    let input = BufReader::new(rt.alloc(), rt.stdin().take(INPUT))?;
-    for line in input.split(rt.alloc(), b'\n') {
-        bench = vector::run(&rt, bench, &line?)?;
+    let mut at = 0;
+    while at < text.len() {
+        let rest = &text[at..];
+        let length = rest
+            .iter()
+            .position(|octet| *octet == b'\n')
+            .unwrap_or(rest.len());
+        bench = vector::run(rt, bench, &rest[..length])?;
+        at += length + 1;
     }
     Ok(())
 }
