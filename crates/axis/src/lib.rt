@@ -16,7 +16,7 @@ use encoder::parameters::Parameters;
 use encoder::refusal;
 use ring::between;
 
-#[derive(Clone, Copy)]
+#[derive(Clone, Copy, PartialEq, Eq)]
 pub struct Axis {
     pub nameplate: Nameplate,
     pub parameters: Parameters,
@@ -30,7 +30,7 @@ pub struct Axis {
     pub stored: i64,
 }
 
-#[derive(Clone, Copy)]
+#[derive(Clone, Copy, PartialEq, Eq)]
 pub struct Next {
     pub axis: Axis,
     // 0 where the call was taken

@@ -17,7 +17,7 @@ use place::period;
 use raw::{approach, oriented, refusal_among};
 use ring::between;
 
-#[derive(Clone, Copy)]
+#[derive(Clone, Copy, PartialEq, Eq)]
 pub struct Shaft {
     // the place of document 01, below R x L
     pub place: Steps,
@@ -25,26 +25,26 @@ pub struct Shaft {
     pub last: Steps,
 }
 
-#[derive(Clone, Copy)]
+#[derive(Clone, Copy, PartialEq, Eq)]
 pub enum Moved {
     To(Shaft),
     Refused(u8),
 }
 
-#[derive(Clone, Copy)]
+#[derive(Clone, Copy, PartialEq, Eq)]
 pub enum Approach {
     By(i64),
     Refused(u8),
 }
 
 // The shaft, and the move d that led there.
-#[derive(Clone, Copy)]
+#[derive(Clone, Copy, PartialEq, Eq)]
 pub enum MovedBy {
     To { shaft: Shaft, d: i64 },
     Refused(u8),
 }
 
-#[derive(Clone, Copy)]
+#[derive(Clone, Copy, PartialEq, Eq)]
 pub enum Reported {
     At { position: Units, unshifted: Units },
     Refused(u8),

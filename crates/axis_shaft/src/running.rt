@@ -11,7 +11,7 @@ use crate::raw::move_to;
 use encoder::effect::InForce;
 use encoder::quantity::{Steps, Units};
 
-#[derive(Clone, Copy)]
+#[derive(Clone, Copy, PartialEq, Eq)]
 pub struct Running {
     // the unshifted position
     pub units: Units,
@@ -24,7 +24,7 @@ pub struct Running {
 }
 
 // A move in units: d x M is whole x R + part, with part below R.
-#[derive(Clone, Copy)]
+#[derive(Clone, Copy, PartialEq, Eq)]
 pub struct Share {
     pub whole: i64,
     pub part: u64,
@@ -32,7 +32,7 @@ pub struct Share {
 
 // Whole turns, in steps and in units. A move and so many turns are a positive number and leave the same part. It has more than 32 bits for either
 // sign of the move, so that the same division does for all. And whole rounds of M total ranges, in units, for units that leave their range.
-#[derive(Clone, Copy)]
+#[derive(Clone, Copy, PartialEq, Eq)]
 pub struct Lead {
     pub steps: Steps,
     pub units: u64,

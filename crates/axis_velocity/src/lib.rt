@@ -15,14 +15,14 @@ use encoder::refusal;
 use encoder::refusal::{first, when};
 use sensor::{Reading, raw_number};
 
-#[derive(Clone, Copy)]
+#[derive(Clone, Copy, PartialEq, Eq)]
 pub enum Speed {
     At(i32),
     Refused(u8),
 }
 
 // The shaft after a new reading, and the velocity of its move.
-#[derive(Clone, Copy)]
+#[derive(Clone, Copy, PartialEq, Eq)]
 pub enum MovedAt {
     To { shaft: Shaft, velocity: i32 },
     Refused(u8),

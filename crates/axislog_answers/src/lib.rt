@@ -7,7 +7,7 @@ ghost use Rattle.axislog_answers.specs.{decimal, number_form, line, held};
 
 use itoa::Buffer;
 
-#[derive(Clone, Copy)]
+#[derive(Clone, Copy, PartialEq, Eq)]
 pub enum Answer {
     // an axis awaits its first reading
     Ready,
@@ -18,7 +18,7 @@ pub enum Answer {
 }
 
 // A line with its newline; the octets behind it are 0. The longest answer is a position of ten digits.
-#[derive(Clone, Copy)]
+#[derive(Clone, Copy, PartialEq, Eq)]
 pub struct Line {
     pub octets: [u8; 16],
     pub length: usize,

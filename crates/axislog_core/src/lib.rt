@@ -18,7 +18,7 @@ pub const INPUT: usize = 60_000;
 // The octets of the lent buffer. An empty line takes one octet and its answer thirteen; no line has a longer answer for each of its octets.
 pub const OUTPUT: usize = 780_000;
 
-#[derive(Clone, Copy)]
+#[derive(Clone, Copy, PartialEq, Eq)]
 pub enum Outcome {
     // so many octets, from the start of the buffer on
     Written(usize),

@@ -8,7 +8,7 @@ use axislog_lexer::number::{Decimal, labelled, last};
 use axislog_lexer::word::{Place, ends, past};
 
 // What an axis form says. Without a scale form scaling is off, and both its numbers are 0.
-#[derive(Clone, Copy)]
+#[derive(Clone, Copy, PartialEq, Eq)]
 pub struct Setup {
     pub steps: u32,
     pub turns: u32,
@@ -19,7 +19,7 @@ pub struct Setup {
     pub range: u32,
 }
 
-#[derive(Clone, Copy)]
+#[derive(Clone, Copy, PartialEq, Eq)]
 pub enum Form {
     Axis(Setup),
     Read(u32),

@@ -6,7 +6,7 @@ ghost use Rattle.axislog_lexer.specs.{digit_of, digits, number, labelled, last};
 use crate::word::{Place, ends, past};
 
 // A number, and where the line goes on after it.
-#[derive(Clone, Copy)]
+#[derive(Clone, Copy, PartialEq, Eq)]
 pub enum Decimal {
     Number(u32, usize),
     Nothing,

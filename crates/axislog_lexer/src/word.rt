@@ -4,7 +4,7 @@ ghost use Rattle.std.specs.Prelude.{drop};
 ghost use Rattle.axislog_lexer.specs.{past, ends};
 
 // Where a line goes on after a word.
-#[derive(Clone, Copy)]
+#[derive(Clone, Copy, PartialEq, Eq)]
 pub enum Place {
     At(usize),
     // the word does not stand there

@@ -13,7 +13,7 @@ use encoder::parameters::Parameters;
 use encoder::quantity::Units;
 use encoder::refusal;
 
-#[derive(Clone, Copy)]
+#[derive(Clone, Copy, PartialEq, Eq)]
 pub enum Stage {
     // no axis form was accepted yet
     NoAxis,
@@ -23,13 +23,13 @@ pub enum Stage {
 }
 
 // Before its first reading an axis has a nameplate and parameters only.
-#[derive(Clone, Copy)]
+#[derive(Clone, Copy, PartialEq, Eq)]
 pub struct State {
     pub stage: Stage,
     pub axis: Axis,
 }
 
-#[derive(Clone, Copy)]
+#[derive(Clone, Copy, PartialEq, Eq)]
 pub struct Reply {
     pub state: State,
     pub answer: Answer,

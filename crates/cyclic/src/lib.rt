@@ -22,7 +22,7 @@ use octets::{number, put_number};
 use standing::{Standing, preset, take};
 
 // The next axis and the next link, with the number of the refusal beside them.
-#[derive(Clone, Copy)]
+#[derive(Clone, Copy, PartialEq, Eq)]
 pub struct Cycled {
     pub axis: Axis,
     pub link: Link,

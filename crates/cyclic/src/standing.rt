@@ -13,7 +13,7 @@ use encoder::effect::InForce;
 use encoder::quantity::Units;
 
 // An axis and its two positions.
-#[derive(Clone, Copy)]
+#[derive(Clone, Copy, PartialEq, Eq)]
 pub(crate) struct Standing {
     pub axis: Axis,
     pub position: Units,
@@ -40,7 +40,7 @@ pub(crate) fn take(axis: Axis, rules: InForce, raw: u32) -> Next
 }
 
 // The answer to a raw number, and the velocity of its move.
-#[derive(Clone, Copy)]
+#[derive(Clone, Copy, PartialEq, Eq)]
 pub(crate) struct Measured {
     pub next: Next,
     // NIST_B

@@ -13,7 +13,7 @@ use encoder::effect::InForce;
 use sign_of_life::{at_stop, hear};
 
 // What one cycle leaves for the next. Everything is 0 at the start.
-#[derive(Clone, Copy)]
+#[derive(Clone, Copy, PartialEq, Eq)]
 pub struct Link {
     // the last cycle was faulty
     pub faulty: bool,
@@ -35,14 +35,14 @@ pub struct Link {
 }
 
 // Whether an axis has a sign of life, and where its failure counter stops (request 3).
-#[derive(Clone, Copy)]
+#[derive(Clone, Copy, PartialEq, Eq)]
 pub struct Life {
     pub on: bool,
     pub stop: u32,
 }
 
 // What the control sends.
-#[derive(Clone, Copy)]
+#[derive(Clone, Copy, PartialEq, Eq)]
 pub struct Control {
     // class 2: the output word; class 4: G1_STW as counted
     pub word: u32,
@@ -51,7 +51,7 @@ pub struct Control {
 }
 
 // The preset that a cycle makes, if it makes one.
-#[derive(Clone, Copy)]
+#[derive(Clone, Copy, PartialEq, Eq)]
 pub struct Preset {
     pub made: bool,
     pub value: i64,
@@ -59,7 +59,7 @@ pub struct Preset {
 }
 
 // What a cycle makes of what the control sends.
-#[derive(Clone, Copy)]
+#[derive(Clone, Copy, PartialEq, Eq)]
 pub struct Reaction {
     pub link: Link,
     pub preset: Preset,

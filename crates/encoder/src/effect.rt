@@ -7,7 +7,7 @@ use crate::operating::{class_on, reversed, scaling};
 use crate::parameters::Parameters;
 use crate::quantity::{Steps, Units};
 
-#[derive(Clone, Copy)]
+#[derive(Clone, Copy, PartialEq, Eq)]
 pub struct InForce {
     // R, per turn
     pub steps: Steps,
@@ -25,7 +25,7 @@ pub struct InForce {
     pub speed: u8,
 }
 
-#[derive(Clone, Copy)]
+#[derive(Clone, Copy, PartialEq, Eq)]
 pub enum Effect {
     Taken(InForce),
     Refused(u8),

@@ -6,7 +6,7 @@ use crate::quantity::{Steps, Turns};
 use crate::refusal;
 use crate::refusal::{first, when};
 
-#[derive(Clone, Copy)]
+#[derive(Clone, Copy, PartialEq, Eq)]
 pub struct Nameplate {
     // R, per turn
     pub steps: Steps,

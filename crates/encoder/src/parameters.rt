@@ -12,7 +12,7 @@ use octets::bit;
 // A bit of the block's first octet. While it is 0, the control expects profile version 3.1.
 const COMPATIBLE: u32 = 5;
 
-#[derive(Clone, Copy)]
+#[derive(Clone, Copy, PartialEq, Eq)]
 pub enum Parameters {
     // Octet 9, revolution units, total range.
     Class2 {
@@ -31,7 +31,7 @@ pub enum Parameters {
 }
 
 // The fields that the rules use, of either class.
-#[derive(Clone, Copy)]
+#[derive(Clone, Copy, PartialEq, Eq)]
 pub struct Fields {
     pub class4: bool,
     pub operating: u8,

@@ -12,7 +12,7 @@ use encoder::refusal;
 use encoder::refusal::{first, when};
 use octets::number;
 
-#[derive(Clone, Copy)]
+#[derive(Clone, Copy, PartialEq, Eq)]
 pub enum Received {
     Taken(Parameters),
     Refused(u8),

@@ -9,7 +9,7 @@ use encoder::parameters::Parameters;
 use encoder::quantity::Units;
 use octets::put_number;
 
-#[derive(Clone, Copy)]
+#[derive(Clone, Copy, PartialEq, Eq)]
 pub enum Written {
     Done,
     Refused(u8),

@@ -9,7 +9,7 @@ use encoder::quantity::{Steps, Turns};
 use encoder::refusal;
 use encoder::refusal::{first, when};
 
-#[derive(Clone, Copy)]
+#[derive(Clone, Copy, PartialEq, Eq)]
 pub enum Reading {
     Number(u32),
     Refused(u8),

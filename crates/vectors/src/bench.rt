@@ -9,7 +9,7 @@ use cyclic_link::Link;
 use diagnosis::diagnosis;
 use std::io;
 
-#[derive(Clone, Copy)]
+#[derive(Clone, Copy, PartialEq, Eq)]
 pub struct Bench {
     pub axis: Axis,
     pub link: Link,

@@ -1,20 +1,20 @@
 // Numbers of a line, one after the other.
 ghost use Rattle.std.specs.Prelude.{◌≤◌};
 
-#[derive(Clone, Copy)]
+#[derive(Clone, Copy, PartialEq, Eq)]
 pub struct Parsed {
     pub value: u32,
     // where the next one is looked for
     pub next: usize,
 }
 
-#[derive(Clone, Copy)]
+#[derive(Clone, Copy, PartialEq, Eq)]
 pub struct ParsedLong {
     pub value: u64,
     pub next: usize,
 }
 
-#[derive(Clone, Copy)]
+#[derive(Clone, Copy, PartialEq, Eq)]
 pub struct ParsedSigned {
     pub value: i64,
     pub next: usize,

@@ -87,7 +87,7 @@ pub(crate) fn parameters(line: &[u8], from: usize) -> Parameters {
 }
 
 // The nameplate of a line, and where the numbers behind it are looked for.
-#[derive(Clone, Copy)]
+#[derive(Clone, Copy, PartialEq, Eq)]
 pub struct Plated {
     pub plate: Nameplate,
     pub next: usize,
