@@ -1,7 +1,7 @@
 -- THE THEOREM (document 01, "The distance rule", demand 3): the claim of specs/Claim.antt holds of the library. By induction on the calls: the start
 -- matches the opened ledger, and each call keeps the match.
 use Rattle.std.specs.Prelude.{◌≡◌, List, [], ◌∷◌, ℕ, ◌<◌, leb, ℤ}
-use Rattle.encoder.specs.{capacity_of, wrong_turn, when, refusal_on}
+use Rattle.encoder.specs.{capacity_of, WrongTurn, when, refusal_on}
 use Rattle.encoder.proofs.{before-none}
 use Rattle.sensor.specs.{step_refusal}
 use Rattle.sensor.proofs.{reading-lt}
@@ -28,7 +28,7 @@ begun d (first_reading step turn) none =
     (h.0, reading-lt n step turn h.1, rw none)
 begun d (first_number raw) none =
     let n = d.plate in
-    let h = before-none (refusal_on n d.parameters) (when (leb (capacity_of n) raw) wrong_turn) none in
+    let h = before-none (refusal_on n d.parameters) (when (leb (capacity_of n) raw) WrongTurn) none in
     (h.0, number_lt n d.parameters raw h.1, rw none)
 
 -- ---- the list

@@ -2,7 +2,7 @@
 -- buffer agrees with the ledger at its own moment. One case for each kind of call.
 use Rattle.std.specs.Prelude.{◌≡◌, refl, not, List, [], ◌++◌, ℕ, zero, suc, eqb, ℤ, length}
 use Rattle.std.proofs.Common.{append-nil}
-use Rattle.encoder.specs.{wrong_buffer, when, answer}
+use Rattle.encoder.specs.{WrongBuffer, when, answer}
 use Rattle.encoder.proofs.{before-none}
 use Rattle.sensor.specs.{raw_of}
 use Rattle.axis_shaft.specs.{move_refusal, refusal_in}
@@ -30,7 +30,7 @@ module _ (s : State) (p : ℕ) (g : ℤ) (limits : Within s) (k : Keeps s p g) (
   batch-done : (raws positions : List ℕ) → refusal_by d l (batching raws positions) ≡ 0 → Supposed d l.last raws m
       → Matches d (onward s (after s.axis raws)) (with_readings l raws m) × Entries d l raws m (positions_of s.axis raws)
   batch-done raws positions e h =
-      let lengths = when (not (eqb (length raws) (length positions))) wrong_buffer in
+      let lengths = when (not (eqb (length raws) (length positions))) WrongBuffer in
       walked s p g raws m lim k (before-none lengths (refusal_in (force d) l.last raws) e).1 h
 
   taken : (c : Call) → refusal_by d l c ≡ 0 → Supposed d l.last (does d l c).numbers m → Done s l m (does d l c) (goes s c)

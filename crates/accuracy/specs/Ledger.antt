@@ -2,7 +2,7 @@
 -- accepted raw number, and one answer, the position just after a preset. By the table of refusals and the rules it settles what is accepted and whether a
 -- preset is made: it keeps the last accepted raw number, the held preset value and the link state itself, and never looks at an axis record.
 use Rattle.std.specs.Prelude.{Bool, true, false, cond, not, ◌&&◌, ◌||◌, List, [], ◌∷◌, ℕ, suc, eqb, ltb, ℤ, pos, ◌+ℤ◌, length}
-use Rattle.encoder.specs.{Nameplate, Parameters, InForce, wrong_buffer, when, ◌before◌, answer, fields_of, rules_of}
+use Rattle.encoder.specs.{Nameplate, Parameters, InForce, WrongBuffer, when, ◌before◌, answer, fields_of, rules_of}
 use Rattle.sensor.specs.{raw_of, step_refusal}
 use Rattle.axis_shaft.specs.{oriented, move_refusal, refusal_in}
 use Rattle.axis_offset.specs.{value_refusal}
@@ -50,7 +50,7 @@ refusal_by d l (reading step turn) =
     step_refusal d.plate step turn before move_refusal (force d) l.last (raw_of d.plate step turn)
 refusal_by d l (raw_reading raw) = move_refusal (force d) l.last raw
 refusal_by d l (batching raws positions) =
-    when (not (eqb (length raws) (length positions))) wrong_buffer before refusal_in (force d) l.last raws
+    when (not (eqb (length raws) (length positions))) WrongBuffer before refusal_in (force d) l.last raws
 refusal_by d l (presetting v relative) = value_refusal (force d) v
 refusal_by d l (storing v) = value_refusal (force d) v
 refusal_by d l (cycling raw output input) = length_refusal (class4 d.parameters) (length output) (length input)

@@ -4,7 +4,7 @@ use Rattle.std.specs.Prelude.{◌≡◌, refl, Bool, true, false, not, ℕ, zero
 use Rattle.std.proofs.Common.{arith, ltb-true, leb-false}
 use Rattle.integer.proofs.{signed, apart, add_is, diff_is, abs_is, modulo-lt, modulo-is}
 use Rattle.ring.specs.{in_range}
-use Rattle.encoder.specs.{Nameplate, Parameters, wrong_turn, wrong_preset, class_off, when, ◌before◌, capacity_of, fields_of, refusal_on, rules_of}
+use Rattle.encoder.specs.{Nameplate, Parameters, WrongTurn, WrongPreset, ClassOff, when, ◌before◌, capacity_of, fields_of, refusal_on, rules_of}
 use Rattle.encoder.proofs.{before-none, taken-sound}
 use Rattle.sensor.specs.{raw_of, step_refusal}
 use Rattle.sensor.proofs.{reading-lt}
@@ -62,8 +62,8 @@ module _ (a : Axis) (l : Limits a) where
   unfolding preset_refusal value_refusal in_range
   value-lt v e =
       let f = rules_on a in
-      let later = when (not (ltb (nat_abs v) f.span.0)) wrong_preset in
-      let h = (before-none (when (not f.enabled) class_off) later (before-none (axis_refusal a) _ e).1).1 in
+      let later = when (not (ltb (nat_abs v) f.span.0)) WrongPreset in
+      let h = (before-none (when (not f.enabled) ClassOff) later (before-none (axis_refusal a) _ e).1).1 in
       within (nat_abs v) f.span.0 (ltb (nat_abs v) f.span.0) refl h
     where
       within : (x n : ℕ) (b : Bool) → ltb x n ≡ b → when (not b) 11 ≡ 0 → x < n
@@ -134,7 +134,7 @@ module _ (n : Nameplate) (p : Parameters) (s t : ℕ) where
 
 module _ (n : Nameplate) (p : Parameters) (raw : ℕ) where
   -- a raw number that is taken is below C
-  pub number_lt : when (leb (capacity_of n) raw) wrong_turn ≡ 0 → raw < capacity_of n
+  pub number_lt : when (leb (capacity_of n) raw) WrongTurn ≡ 0 → raw < capacity_of n
   number_lt z = go (leb (capacity_of n) raw) refl z
     where
       go : (b : Bool) → leb (capacity_of n) raw ≡ b → when b 9 ≡ 0 → raw < capacity_of n
@@ -143,7 +143,7 @@ module _ (n : Nameplate) (p : Parameters) (raw : ℕ) where
 
   pub raw-started-kept : (start_raw n p raw).refusal ≡ 0 → acceptable (start_raw n p raw).axis ≡ true
   unfolding start_raw start_raw_refusal
-  raw-started-kept z = by-start n p raw (when (leb (capacity_of n) raw) wrong_turn) (start_raw_refusal n p raw) refl number_lt z
+  raw-started-kept z = by-start n p raw (when (leb (capacity_of n) raw) WrongTurn) (start_raw_refusal n p raw) refl number_lt z
 
   pub raw-refused-outside : ((start_raw n p raw).refusal ≡ 0 → ⊥) → acceptable (start_raw n p raw).axis ≡ false
   unfolding start_raw

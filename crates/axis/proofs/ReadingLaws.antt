@@ -3,7 +3,7 @@ pub use borrow.Author.Rules.{rules}
 use Rattle.std.specs.Prelude.{◌≡◌, refl, false, ℕ, zero, suc, leb}
 use Rattle.std.proofs.Common.{sym, ◌∙◌}
 use Rattle.std.proofs.lemmas.Bool.{lt-leb}
-use Rattle.encoder.specs.{Nameplate, Parameters, InForce, Effect, Taken, Refused as NotInForce, wrong_turn, when, ◌before◌, answer, capacity_of, fields_of, refusal_on}
+use Rattle.encoder.specs.{Nameplate, Parameters, InForce, Effect, Taken, Refused as NotInForce, WrongTurn, when, ◌before◌, answer, capacity_of, fields_of, refusal_on}
 use Rattle.encoder.specs.{rules_of, in_force}
 use Rattle.encoder.proofs.{refused-is, before-first, in-force-taken, in-force-refused, taken-sound}
 use Rattle.sensor.specs.{Reading, Number, Refused as NotRead, raw_of, step_refusal, numbered}
@@ -90,11 +90,11 @@ module _ (n : Nameplate) (p : Parameters) (e : Effect) (e-is : e ≡ in_force n 
     parameters-none = (in-force-taken n p e f h e-is).0
 
     -- the shaft answers 9 for a raw number of C or above, and else its place
-    begun-next : (raw : ℕ) (m : Moved) → m ≡ begun f raw → x ≡ begun_by n p m → x ≡ next (fresh n p nowhere) (when (leb (capacity_of n) raw) wrong_turn) (first n p raw)
+    begun-next : (raw : ℕ) (m : Moved) → m ≡ begun f raw → x ≡ begun_by n p m → x ≡ next (fresh n p nowhere) (when (leb (capacity_of n) raw) WrongTurn) (first n p raw)
     unfolding rules_of
     begun-next raw m m-is w =
         let i = in-force-taken n p e f h e-is in
-        w ∙ rw (m-is, begun-by f raw (rw i.1 (taken-sound n p i.0)), i.1) (go (when (leb (capacity_of n) raw) wrong_turn))
+        w ∙ rw (m-is, begun-by f raw (rw i.1 (taken-sound n p i.0)), i.1) (go (when (leb (capacity_of n) raw) WrongTurn))
       where
         go : (j : ℕ) → begun_by n p (answer NotMoved (To (started (rules_of n (fields_of p)) raw)) j) ≡ next (fresh n p nowhere) j (first n p raw)
         go zero = refl
@@ -123,7 +123,7 @@ module _ (n : Nameplate) (p : Parameters) (e : Effect) (e-is : e ≡ in_force n 
   module _ (raw : ℕ) where
     pub start-raw-parameters : (j : ℕ) → e ≡ NotInForce j → x ≡ refused (fresh n p nowhere) j → x ≡ start_raw n p raw
     unfolding start_raw start_raw_refusal
-    start-raw-parameters j h w = parameters-first j (when (leb (capacity_of n) raw) wrong_turn) (first n p raw) h w
+    start-raw-parameters j h w = parameters-first j (when (leb (capacity_of n) raw) WrongTurn) (first n p raw) h w
 
     pub start-raw-to : (f : InForce) (m : Moved) → e ≡ Taken f → m ≡ begun f raw → x ≡ begun_by n p m → x ≡ start_raw n p raw
     unfolding start_raw start_raw_refusal

@@ -1,7 +1,7 @@
 -- The axis record, its limits, and the position that it stands at (document 01, "The axis", rules 4 and 5; row 16).
 use Rattle.std.specs.Prelude.{◌≡◌, Bool, true, not, ◌&&◌, ℕ, ◌<◌, eqb, nat_abs}
 use Rattle.ring.specs.{in_range}
-use Rattle.encoder.specs.{InForce, Effect, Taken, Refused as NotInForce, no_axis, when, answer, fields_of, refusal_on, rules_of}
+use Rattle.encoder.specs.{InForce, Effect, Taken, Refused as NotInForce, NoAxis, when, answer, fields_of, refusal_on, rules_of}
 use Rattle.axis_shaft.specs.{Reported, At, declared.Reported.TheVariants.Refused, inside, Inside, unshifted, position_at}
 use Rattle.axis.specs.declared.Axis.{Axis}
 
@@ -20,7 +20,7 @@ acceptable a = eqb (refusal_on a.nameplate a.parameters) 0 && keeps (rules_on a)
 
 -- 16: a record outside its limits
 unfoldable pub axis_refusal : Axis → ℕ
-axis_refusal a = when (not (acceptable a)) no_axis
+axis_refusal a = when (not (acceptable a)) NoAxis
 
 -- the answer: what is in force, or the number of the refusal
 unfoldable pub in_force_on : Axis → Effect

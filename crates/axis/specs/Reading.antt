@@ -1,6 +1,6 @@
 -- Start and reading: each yields the next axis, or the axis as it was beside the number of the refusal (document 01, "The axis", rules 2 and 3).
 use Rattle.std.specs.Prelude.{ℕ, leb, pos}
-use Rattle.encoder.specs.{Nameplate, Parameters, wrong_turn, when, ◌before◌, answer, capacity_of, fields_of, refusal_on, rules_of}
+use Rattle.encoder.specs.{Nameplate, Parameters, WrongTurn, when, ◌before◌, answer, capacity_of, fields_of, refusal_on, rules_of}
 use Rattle.sensor.specs.{raw_of, step_refusal}
 use Rattle.axis_shaft.specs.{Shaft, Moved, To, declared.Moved.TheVariants.Refused as NotMoved, nowhere, started, shaft_refusal, moved_to}
 use Rattle.axis.specs.{declared.Axis.Axis, declared.Next.Next, Limits.rules_on, Limits.axis_refusal}
@@ -33,7 +33,7 @@ start n p s t = next (fresh n p nowhere) (start_refusal n p s t) (fresh n p (sta
 
 -- the same from a raw number: 7, 3, 4, 5, 6, 17, then 9 where it is C or above
 unfoldable pub start_raw_refusal : Nameplate → Parameters → ℕ → ℕ
-start_raw_refusal n p raw = refusal_on n p before when (leb (capacity_of n) raw) wrong_turn
+start_raw_refusal n p raw = refusal_on n p before when (leb (capacity_of n) raw) WrongTurn
 
 unfoldable pub start_raw : Nameplate → Parameters → ℕ → Next
 start_raw n p raw = next (fresh n p nowhere) (start_raw_refusal n p raw) (fresh n p (started (rules_of n (fields_of p)) raw))

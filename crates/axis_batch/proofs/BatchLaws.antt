@@ -6,7 +6,7 @@ use Rattle.std.specs.Int.{w64}
 use mir.Val.{to_z, of_z}
 use Rattle.integer.proofs.{reads}
 use Rattle.ring.specs.{in_range}
-use Rattle.encoder.specs.{InForce, wrong_buffer, when, ◌before◌, answer}
+use Rattle.encoder.specs.{InForce, WrongBuffer, when, ◌before◌, answer}
 use Rattle.encoder.proofs.{refused-is, before-none}
 use Rattle.axis_shaft.specs.{Shaft, Moved, To, declared.Moved.TheVariants.Refused as NotMoved, moved_to, move_refusal, refusal_in, after as shaft_after, positions_in}
 use Rattle.axis_shaft.specs.{batch_refusal as shaft_batch_refusal, batched, batched_list}
@@ -86,7 +86,7 @@ module _ (a : Axis) (f : InForce) (r : Ready a f) (s out : List ℕ) where
   none_in : batch_refusal a s out ≡ 0 → refusal_in (rules_on a) (last_of a) s ≡ 0
   unfolding batch_refusal
   none_in e =
-      let l = when (not (eqb (length s) (length out))) wrong_buffer in
+      let l = when (not (eqb (length s) (length out))) WrongBuffer in
       let h = (before-none (axis_refusal a) (l before first_refusal a s) e).1 in
       sym (first-is a s limits-here) ∙ (before-none l (first_refusal a s) h).1
 

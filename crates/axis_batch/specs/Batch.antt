@@ -1,6 +1,6 @@
 -- A batch, document 01's pass: each raw number as if read singly (rule 7).
 use Rattle.std.specs.Prelude.{not, List, [], ◌∷◌, ℕ, eqb, length}
-use Rattle.encoder.specs.{wrong_buffer, when, ◌before◌, answer}
+use Rattle.encoder.specs.{WrongBuffer, when, ◌before◌, answer}
 use Rattle.axis.specs.{Axis, Next, axis_refusal, position_of, next, read_raw}
 
 -- the first refusal, entry after entry
@@ -19,7 +19,7 @@ positions_of a (raw ∷ raws) = position_of (read_raw a raw).axis ∷ positions_
 
 -- 16, 13, then 9 and 10
 unfoldable pub batch_refusal : Axis → List ℕ → List ℕ → ℕ
-batch_refusal a raws out = axis_refusal a before when (not (eqb (length raws) (length out))) wrong_buffer before first_refusal a raws
+batch_refusal a raws out = axis_refusal a before when (not (eqb (length raws) (length out))) WrongBuffer before first_refusal a raws
 
 unfoldable pub batch : Axis → List ℕ → List ℕ → Next
 batch a raws out = next a (batch_refusal a raws out) (after a raws)

@@ -10,7 +10,7 @@ use Rattle.std.specs.Int.{w64, w32}
 use mir.Val.{Fits, SFits, to_z, of_z}
 use Rattle.integer.proofs.{reads}
 use Rattle.ring.specs.{in_range}
-use Rattle.encoder.specs.{InForce, Sound, wrong_buffer, no_axis, when, ◌before◌}
+use Rattle.encoder.specs.{InForce, Sound, WrongBuffer, NoAxis, when, ◌before◌}
 use Rattle.encoder.proofs.{before-first, before-none, when-none, and_split}
 use Rattle.axis_shaft.specs.{Shaft, inside, Inside, move_refusal, refusal_in, batch_refusal, gap, doubtful}
 use Rattle.axis_shaft.proofs.{SensorLaws.taken-lt, SensorLaws.not-doubtful, ShaftLaws.inside-true}
@@ -119,8 +119,8 @@ pub batch-taken : (f : InForce) (k : Shaft) (offset : ℤ) (s : List ℕ) (room 
     → Inside f k × (nat_abs offset < f.span.0) × (length s ≡ room) × (refusal_in f k.last.0 s ≡ 0)
 unfolding batch_refusal in_range
 batch-taken f k offset s room none =
-    let later = when (not (eqb (length s) room)) wrong_buffer in
-    let limits = before-none (when (not (inside f k && in_range offset f.span.0)) no_axis) (later before refusal_in f k.last.0 s) none in
+    let later = when (not (eqb (length s) room)) WrongBuffer in
+    let limits = before-none (when (not (inside f k && in_range offset f.span.0)) NoAxis) (later before refusal_in f k.last.0 s) none in
     let rest = before-none later (refusal_in f k.last.0 s) limits.1 in
     let both = and_split (inside f k) (in_range offset f.span.0) (when-none _ 15 limits.0) in
     (inside-true f k both.0, ltb-true _ _ both.1, eqb-true _ _ (when-none _ 12 rest.0), rest.1)

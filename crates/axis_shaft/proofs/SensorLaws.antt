@@ -10,7 +10,7 @@ use mir.Val.{SFits, to_z, of_z}
 use Rattle.std.proofs.lemmas.Int.{to_z_pos}
 use Rattle.integer.specs.{◌modulo◌}
 use Rattle.integer.proofs.{signed, neg_is, diff_is, reads, abs_is, fits-abs, diff-fits, diff-reads, modulo-lt, modulo-is, modulo-alike}
-use Rattle.encoder.specs.{InForce, Sound, wrong_turn, when, answer}
+use Rattle.encoder.specs.{InForce, Sound, WrongTurn, when, answer}
 use Rattle.encoder.proofs.{refused-is, before-none, when-not}
 use Rattle.axis_shaft.specs.{Approach, By, declared.Approach.TheVariants.Refused, oriented, difference, shorter, move_of, half_refusal, move_refusal, approach_from, gap}
 use native.Mathlib.Nat as N
@@ -167,7 +167,7 @@ by-refused e z (suc n) j t e-is = let h : Refused j ≡ Refused (suc n) = sym t 
 -- an accepted reading is below C
 pub raw-lt : (f : InForce) (last raw : ℕ) → move_refusal f last raw ≡ 0 → raw < f.capacity.0
 unfolding move_refusal
-raw-lt f last raw h = leb-false _ _ (when-not (leb f.capacity.0 raw) 8 (before-none (when (leb f.capacity.0 raw) wrong_turn) _ h).0)
+raw-lt f last raw h = leb-false _ _ (when-not (leb f.capacity.0 raw) 8 (before-none (when (leb f.capacity.0 raw) WrongTurn) _ h).0)
 
 -- a reading below C that is not C/2 from the last one
 pub not-doubtful : (f : InForce) (last raw : ℕ) → Sound f → last < f.capacity.0 → leb f.capacity.0 raw ≡ false → eqb (gap last raw) (f.capacity.0 / 2) ≡ false

@@ -7,7 +7,7 @@ use Rattle.std.proofs.lemmas.Bool.{lt-leb}
 use Rattle.std.specs.Int.{w64}
 use mir.Val.{SFits, to_z, of_z}
 use Rattle.integer.proofs.{reads, modulo-lt}
-use Rattle.encoder.specs.{Units, InForce, wrong_turn, no_axis, when, answer, rules_fit, Sound}
+use Rattle.encoder.specs.{Units, InForce, WrongTurn, NoAxis, when, answer, rules_fit, Sound}
 use Rattle.encoder.proofs.{refused-is, before-none, when-none, and_split, sound-of, fits-of}
 use Rattle.axis_shaft.specs.{Shaft, Moved, To, declared.Moved.TheVariants.Refused as NotMoved, MovedBy, declared.MovedBy.TheVariants.To as ToBy}
 use Rattle.axis_shaft.specs.{declared.MovedBy.TheVariants.Refused as NotMovedBy, Approach, By}
@@ -115,9 +115,9 @@ module _ (f : InForce) (k : Shaft) (raw : ℕ) (e : Approach) (e-is : e ≡ appr
     unfolding approached
     approach-taken = by-taken e (move_of f k.last.0 raw) d (shaft_refusal f k raw) h e-is
 
-    refusals-none : (when (not (inside f k)) no_axis ≡ 0) × (move_refusal f k.last.0 raw ≡ 0)
+    refusals-none : (when (not (inside f k)) NoAxis ≡ 0) × (move_refusal f k.last.0 raw ≡ 0)
     unfolding shaft_refusal
-    refusals-none = before-none (when (not (inside f k)) no_axis) (move_refusal f k.last.0 raw) approach-taken.0
+    refusals-none = before-none (when (not (inside f k)) NoAxis) (move_refusal f k.last.0 raw) approach-taken.0
 
     pub moved_inside : Inside f k
     moved_inside = inside-true f k (when-none (inside f k) 15 refusals-none.0)
@@ -178,6 +178,6 @@ module _ (f : InForce) (k : Shaft) (i : Inside f k) where
   unfolding reported_at
   reported-is offset = rw (inside_is f k i)
 
-pub begun-by : (f : InForce) (raw : ℕ) → Sound f → begun f raw ≡ answer NotMoved (To (started f raw)) (when (leb f.capacity.0 raw) wrong_turn)
+pub begun-by : (f : InForce) (raw : ℕ) → Sound f → begun f raw ≡ answer NotMoved (To (started f raw)) (when (leb f.capacity.0 raw) WrongTurn)
 unfolding begun begin_refusal
 begun-by f raw s = rw (fits-of f s)

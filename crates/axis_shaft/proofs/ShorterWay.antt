@@ -5,7 +5,7 @@ use Rattle.std.proofs.Common.{arith, ltb-true, ltb-false}
 use Rattle.std.proofs.lemmas.Bool.{eqb-false}
 use Rattle.integer.specs.{◌modulo◌}
 use Rattle.integer.proofs.{signed, apart, diff_is, abs_is, modulo-is}
-use Rattle.encoder.specs.{InForce, wrong_turn, half_range, when, Sound}
+use Rattle.encoder.specs.{InForce, WrongTurn, HalfRange, when, Sound}
 use Rattle.encoder.proofs.{before-none, when-not}
 use Rattle.axis_shaft.specs.{difference, shorter, move_of, move_refusal}
 use Rattle.axis_shaft.proofs.SensorLaws.{difference-lt, shorter-ahead, shorter_back}
@@ -26,7 +26,7 @@ unfolding move_refusal move_of
 shorter-way f last raw s e =
     let n = difference f last raw in
     let c = f.capacity.0 in
-    let z = (before-none (when (leb c raw) wrong_turn) (when (eqb (2 * n) c) half_range) e).1 in
+    let z = (before-none (when (leb c raw) WrongTurn) (when (eqb (2 * n) c) HalfRange) e).1 in
     by-half n c (ltb (2 * n) c) refl (difference-lt f last raw s) (eqb-false _ _ (when-not (eqb (2 * n) c) 9 z))
 
 -- no other number is: a move below half the range that equals the difference modulo C is this move

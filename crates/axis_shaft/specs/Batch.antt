@@ -1,7 +1,7 @@
 -- A batch, document 01's pass: a list of raw numbers, and a list of positions of the same length, each as if read singly (rule 7).
 use Rattle.std.specs.Prelude.{Bool, false, cond, not, ◌&&◌, ◌||◌, List, [], ◌∷◌, ℕ, ◌-◌, ◌/◌, eqb, leb, ℤ, length}
 use Rattle.ring.specs.{in_range}
-use Rattle.encoder.specs.{InForce, wrong_buffer, no_axis, when, ◌before◌, answer}
+use Rattle.encoder.specs.{InForce, WrongBuffer, NoAxis, when, ◌before◌, answer}
 use Rattle.axis_shaft.specs.{declared.Shaft.Shaft, declared.Moved.Moved, declared.Moved.TheVariants.To, declared.Moved.TheVariants.Refused, Rules.inside}
 use Rattle.axis_shaft.specs.{Rules.move_refusal, Rules.moved_to, Rules.position_at}
 
@@ -31,8 +31,8 @@ positions_in f offset k (raw ∷ raws) = position_at f offset (moved_to f k raw)
 -- for a list of so many positions: 16, 13, then 9 and 10
 unfoldable pub batch_refusal : InForce → Shaft → ℤ → List ℕ → ℕ → ℕ
 batch_refusal f k offset raws room =
-    when (not (inside f k && in_range offset f.span.0)) no_axis
-    before when (not (eqb (length raws) room)) wrong_buffer
+    when (not (inside f k && in_range offset f.span.0)) NoAxis
+    before when (not (eqb (length raws) room)) WrongBuffer
     before refusal_in f k.last.0 raws
 
 unfoldable pub batched : InForce → Shaft → ℤ → List ℕ → List ℕ → Moved

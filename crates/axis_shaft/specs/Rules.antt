@@ -1,7 +1,7 @@
 -- The shaft: its place and its last reading (document 01, "The axis", rules 1 to 5; rows 9, 10 and 16).
 use Rattle.std.specs.Prelude.{Bool, cond, not, ◌&&◌, ℕ, ◌-◌, ◌*◌, ◌/◌, ◌%◌, ◌^◌, ◌<◌, eqb, ltb, leb, ℤ, pos, neg_ℤ, ◌+ℤ◌, ◌-ℤ◌}
 use Rattle.integer.specs.{◌modulo◌}
-use Rattle.encoder.specs.{InForce, wrong_turn, half_range, no_axis, when, ◌before◌, answer, rules_fit, Sound}
+use Rattle.encoder.specs.{InForce, WrongTurn, HalfRange, NoAxis, when, ◌before◌, answer, rules_fit, Sound}
 use Rattle.axis_shaft.specs.{declared.Shaft.Shaft, declared.Moved.Moved, declared.Moved.TheVariants.To, declared.Moved.TheVariants.Refused as NotMoved}
 use Rattle.axis_shaft.specs.{declared.Approach.Approach, declared.Approach.TheVariants.By, declared.Approach.TheVariants.Refused as NotApproached}
 use Rattle.axis_shaft.specs.{declared.MovedBy.MovedBy, declared.MovedBy.TheVariants.To as ToBy, declared.MovedBy.TheVariants.Refused as NotMovedBy}
@@ -47,11 +47,11 @@ move_of f last raw = shorter (difference f last raw) f.capacity.0
 
 -- 10: a difference n of exactly C/2
 abbrev pub half_refusal : ℕ → ℕ → ℕ
-half_refusal n c = when (eqb (2 * n) c) half_range
+half_refusal n c = when (eqb (2 * n) c) HalfRange
 
 -- 9: raw number ≥ C; then 10
 unfoldable pub move_refusal : InForce → ℕ → ℕ → ℕ
-move_refusal f last raw = when (leb f.capacity.0 raw) wrong_turn before half_refusal (difference f last raw) f.capacity.0
+move_refusal f last raw = when (leb f.capacity.0 raw) WrongTurn before half_refusal (difference f last raw) f.capacity.0
 
 -- the move, or the number of the refusal
 unfoldable pub approach_from : InForce → ℕ → ℕ → Approach
@@ -71,13 +71,13 @@ position_at f offset k = (pos (unshifted f k) +ℤ offset) modulo f.span.0
 
 -- ---- the answers, by the number of the refusal: 16, 9, 10
 unfoldable pub begin_refusal : InForce → ℕ → ℕ
-begin_refusal f raw = when (not (rules_fit f)) no_axis before when (leb f.capacity.0 raw) wrong_turn
+begin_refusal f raw = when (not (rules_fit f)) NoAxis before when (leb f.capacity.0 raw) WrongTurn
 
 unfoldable pub begun : InForce → ℕ → Moved
 begun f raw = answer NotMoved (To (started f raw)) (begin_refusal f raw)
 
 unfoldable pub shaft_refusal : InForce → Shaft → ℕ → ℕ
-shaft_refusal f k raw = when (not (inside f k)) no_axis before move_refusal f k.last.0 raw
+shaft_refusal f k raw = when (not (inside f k)) NoAxis before move_refusal f k.last.0 raw
 
 unfoldable pub approached : InForce → Shaft → ℕ → Approach
 approached f k raw = answer NotApproached (By (move_of f k.last.0 raw)) (shaft_refusal f k raw)
@@ -90,4 +90,4 @@ unfoldable pub moved_by : InForce → Shaft → ℕ → MovedBy
 moved_by f k raw = answer NotMovedBy (ToBy (moved_to f k raw) (move_of f k.last.0 raw)) (shaft_refusal f k raw)
 
 unfoldable pub reported_at : InForce → ℤ → Shaft → Reported
-reported_at f offset k = answer Refused (At (record { 0 = position_at f offset k }) (record { 0 = unshifted f k })) (when (not (inside f k)) no_axis)
+reported_at f offset k = answer Refused (At (record { 0 = position_at f offset k }) (record { 0 = unshifted f k })) (when (not (inside f k)) NoAxis)

@@ -4,7 +4,7 @@ use Rattle.std.proofs.Common.{sym, ◌∙◌, arith, eq-eqb, ne_eqb}
 use Rattle.std.specs.Int.{w64, w32}
 use mir.Val.{to_z, of_z}
 use Rattle.integer.proofs.{reads}
-use Rattle.encoder.specs.{InForce, no_axis, when, ◌before◌, answer, Sound}
+use Rattle.encoder.specs.{InForce, NoAxis, when, ◌before◌, answer, Sound}
 use Rattle.encoder.proofs.{refused-is, before-first, before-none, when-none}
 use Rattle.sensor.specs.{Reading, Number, Refused as NotRead, numbered}
 use Rattle.sensor.proofs.{reading-taken, reading-refused}
@@ -80,7 +80,7 @@ module _ (f : InForce) (k : Shaft) (raw : ℕ) (q : MovedBy) (q-is : q ≡ moved
 
   pub at-sound : Sound f
   unfolding shaft_refusal
-  at-sound = (inside-true f k (when-none (inside f k) 15 (before-none (when (not (inside f k)) no_axis) _ taken.0).0)).sound
+  at-sound = (inside-true f k (when-none (inside f k) 15 (before-none (when (not (inside f k)) NoAxis) _ taken.0).0)).sound
 
   pub at_small : nat_abs (to_z w64 (of_z w64 d)) ≤ 2 ^ 31
   at_small = small f at-sound k.last.0 raw d taken.2

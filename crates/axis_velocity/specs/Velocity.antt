@@ -2,7 +2,7 @@
 use Rattle.std.specs.Prelude.{cond, not, ℕ, ◌*◌, eqb, ℤ, pos, negsuc, ◌*ℤ◌}
 use Rattle.std.specs.Int.Signed.{quot_z}
 use Rattle.integer.specs.{clamp}
-use Rattle.encoder.specs.{InForce, nothing_elapsed, no_axis, when, ◌before◌, answer}
+use Rattle.encoder.specs.{InForce, NothingElapsed, NoAxis, when, ◌before◌, answer}
 use Rattle.sensor.specs.{raw_of, step_refusal}
 use Rattle.axis_shaft.specs.{Shaft, inside, move_of, move_refusal, moved_to, shaft_refusal}
 use Rattle.axis.specs.{Axis, rules_on, axis_refusal}
@@ -37,7 +37,7 @@ velocity_of f k raw e = rate_of f (move_of f k.last.0 raw) e
 unfoldable pub velocity_refusal : Axis → ℕ → ℕ → ℕ → ℕ
 velocity_refusal a s t e =
     axis_refusal a
-    before when (eqb e 0) nothing_elapsed
+    before when (eqb e 0) NothingElapsed
     before step_refusal a.nameplate s t
     before shaft_refusal (rules_on a) a.shaft (raw_of a.nameplate s t)
 
@@ -49,8 +49,8 @@ velocity_at a s t e =
 -- ---- for the cycle with velocity (request 1), the same of a shaft that moves: 16, 14, 9, 10
 unfoldable pub moved_at_refusal : InForce → Shaft → ℕ → ℕ → ℕ
 moved_at_refusal f k raw e =
-    when (not (inside f k)) no_axis
-    before when (eqb e 0) nothing_elapsed
+    when (not (inside f k)) NoAxis
+    before when (eqb e 0) NothingElapsed
     before move_refusal f k.last.0 raw
 
 -- the shaft after the reading and the velocity of its move, or the number of the refusal

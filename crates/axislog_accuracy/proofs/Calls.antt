@@ -3,7 +3,7 @@
 use Rattle.std.specs.Prelude.{◌≡◌, refl, Bool, true, false, not, List, [], ◌∷◌, ℕ, ℤ}
 use Rattle.std.proofs.Common.{ap, ◌∙◌}
 use Rattle.integer.specs.{◌modulo◌}
-use Rattle.encoder.specs.{no_axis, when, ◌before◌, answer}
+use Rattle.encoder.specs.{NoAxis, when, ◌before◌, answer}
 use Rattle.axis_shaft.specs.{Reported, At as Found, declared.Reported.TheVariants.Refused as Outside, move_refusal, moved_to}
 use Rattle.axis_offset.specs.{value_refusal}
 use Rattle.axis.specs.{Axis, rules_on, acceptable, axis_refusal, position_of, unshifted_of, reported, next, at_raw, read_raw, preset_refusal, presetted, preset as preset_on}
@@ -26,7 +26,7 @@ module _ (d : Device) (l : Ledger) (a : Axis) (g : Going d l a) where
   unfolding reported axis_refusal
   limits = limits_of a (go (acceptable a) (now d l a g))
     where
-      go : (b : Bool) → Reports d l (answer Outside (Found (record { 0 = position_of a }) (record { 0 = unshifted_of a })) (when (not b) no_axis)) → b ≡ true
+      go : (b : Bool) → Reports d l (answer Outside (Found (record { 0 = position_of a }) (record { 0 = unshifted_of a })) (when (not b) NoAxis)) → b ≡ true
       go true h = refl
       go false h = absurd h
 

@@ -14,7 +14,7 @@
 -- there refutes it of a program that refuses every line, of one that always shows 0, and of one that ignores presets.
 use Rattle.std.specs.Prelude.{◌≡◌, false, List, [], ◌∷◌, ℕ, ℤ}
 use Rattle.integer.specs.{◌modulo◌}
-use Rattle.encoder.specs.{no_form, no_axis, answer, refusal_on}
+use Rattle.encoder.specs.{NoForm, NoAxis, answer, refusal_on}
 use Rattle.accuracy.specs.{first_number, raw_reading, presetting, Device, force, Ledger.Ledger, start_by, opened, refusal_by, made, with_readings, put, TrueSteps, Agrees}
 use Rattle.axislog_forms.specs.{Setup, Form, Axis, Read, Preset, Nothing, form}
 use Rattle.axislog_answers.specs.{Answer, Ready, At, Refused}
@@ -51,13 +51,13 @@ pub data Due : Type 0 where
 
 -- by the table. An axis that waits has plate and parameters that were taken, so that a start on it is refused only by 9
 abbrev pub due : Form → Book → Due
-due Nothing b = refusal no_form
+due Nothing b = refusal NoForm
 due (Axis f) b = answer refusal (ready (device f)) (refusal_on (plate_of f) (parameters_of f))
-due (Read raw) none = refusal no_axis
+due (Read raw) none = refusal NoAxis
 due (Read raw) (waiting d) = answer refusal (first d raw) (start_by d (first_number raw))
 due (Read raw) (kept d l) = answer refusal (reading d l raw) (refusal_by d l (raw_reading raw))
-due (Preset v) none = refusal no_axis
-due (Preset v) (waiting d) = refusal no_axis
+due (Preset v) none = refusal NoAxis
+due (Preset v) (waiting d) = refusal NoAxis
 due (Preset v) (kept d l) = answer refusal (preset d l v) (refusal_by d l (presetting v false))
 
 -- ---- supposed of m, where a raw number is taken after the first

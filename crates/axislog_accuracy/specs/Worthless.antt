@@ -2,7 +2,7 @@
 -- proofs/Worthless.antt.
 use Rattle.std.specs.Prelude.{ℕ, List}
 use Rattle.integer.specs.{ascii}
-use Rattle.encoder.specs.{no_form}
+use Rattle.encoder.specs.{NoForm}
 use Rattle.axis.specs.{Axis, unshifted_of}
 use Rattle.axislog_answers.specs.{Answer, Ready, At, Refused}
 use Rattle.axislog_accuracy.specs.{Log.Program, Axislog.axislog}
@@ -18,7 +18,7 @@ answers f =
     }
 
 abbrev pub refuses_all : Program
-refuses_all = answers (λ a ours. Refused no_form)
+refuses_all = answers (λ a ours. Refused NoForm)
 
 -- another position in the place of ours
 abbrev pub instead : ℕ → Answer → Answer

@@ -1,14 +1,14 @@
 -- What an accepted call tells of its two lengths, and that the answers fit into the buffer.
 use Rattle.std.specs.Prelude.{◌≡◌, refl, List, not, ℕ, zero, suc, ◌≤◌, length, take, eqb, ltb}
 use Rattle.std.proofs.Common.{sym, ◌∙◌, arith, length-take-le, ltb-false, eqb-true}
-use Rattle.encoder.specs.{no_form, wrong_buffer, when, answer}
+use Rattle.encoder.specs.{NoForm, WrongBuffer, when, answer}
 use Rattle.encoder.proofs.{before-none, when-not, when-none}
 use Rattle.axislog_core.specs.{Outcome, Written, Refused, answers, call_refusal, outcome}
 use Rattle.axislog_core.proofs.RoomLaws.{answers-room}
 
 pub call-taken : (input output n : ℕ) → n ≡ call_refusal input output → n ≡ 0 → (input ≤ 60000) × (output ≡ 780000)
 call-taken input output n n-is z =
-    let h = before-none (when (ltb 60000 input) no_form) (when (not (eqb output 780000)) wrong_buffer) (sym n-is ∙ z) in
+    let h = before-none (when (ltb 60000 input) NoForm) (when (not (eqb output 780000)) WrongBuffer) (sym n-is ∙ z) in
     (ltb-false _ _ (when-not _ 14 h.0), eqb-true _ _ (when-none _ 12 h.1))
 
 -- ---- what a caller may take from the buffer

@@ -2,7 +2,7 @@
 use Rattle.std.specs.Prelude.{ℕ, List, [], ◌∷◌, ◌++◌, cond, not, eqb, ltb, length}
 use Rattle.std.specs.List.{position_or_len}
 use Rattle.integer.specs.{over}
-use Rattle.encoder.specs.{no_form, wrong_buffer, when, ◌before◌, answer}
+use Rattle.encoder.specs.{NoForm, WrongBuffer, when, ◌before◌, answer}
 use Rattle.axislog_forms.specs.{form}
 use Rattle.axislog_answers.specs.{text}
 use Rattle.axislog_state.specs.{State, empty, reply}
@@ -33,7 +33,7 @@ answers input = answers_from empty (lines input)
 
 -- by the octets of the input and of the lent buffer: 15, input above 60,000; then 13, not 780,000 lent, 13 for each octet of input
 abbrev pub call_refusal : ℕ → ℕ → ℕ
-call_refusal input output = when (ltb 60000 input) no_form before when (not (eqb output 780000)) wrong_buffer
+call_refusal input output = when (ltb 60000 input) NoForm before when (not (eqb output 780000)) WrongBuffer
 
 unfoldable pub outcome : List ℕ → List ℕ → Outcome
 outcome input output = answer Refused (Written (length (answers input))) (call_refusal (length input) (length output))

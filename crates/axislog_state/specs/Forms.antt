@@ -1,7 +1,7 @@
 -- The axis of a log, and what a form does to it (document 01, "The program axislog").
 use Rattle.std.specs.Prelude.{ℕ, ◌+◌, false, true, ℤ}
 use Rattle.integer.specs.{at}
-use Rattle.encoder.specs.{Nameplate, Parameters, Class2, no_form, no_axis, answer, plain_plate, refusal_on}
+use Rattle.encoder.specs.{Nameplate, Parameters, Class2, NoForm, NoAxis, answer, plain_plate, refusal_on}
 use Rattle.axis_shaft.specs.{nowhere, Reported, At as Found, declared.Reported.TheVariants.Refused as Outside}
 use Rattle.axis.specs.{Axis, Next, reported, fresh, start_raw, read_raw, preset as preset_on}
 use Rattle.axislog_forms.specs.{Setup, Form, Axis as AxisForm, Read, Preset, Nothing}
@@ -55,7 +55,7 @@ set_up s f = answer (refused s) (ready f) (refusal_on (plate_of f) (parameters_o
 
 -- the first accepted read starts the axis
 abbrev pub read_at : Stage → State → ℕ → Reply
-read_at NoAxis s raw = refused s no_axis
+read_at NoAxis s raw = refused s NoAxis
 read_at Waiting s raw = after s (start_raw s.axis.nameplate s.axis.parameters raw)
 read_at Started s raw = after s (read_raw s.axis raw)
 
@@ -64,8 +64,8 @@ read s raw = read_at s.stage s raw
 
 -- presets are absolute; one before the first accepted read gets 16
 abbrev pub preset_at : Stage → State → ℤ → Reply
-preset_at NoAxis s v = refused s no_axis
-preset_at Waiting s v = refused s no_axis
+preset_at NoAxis s v = refused s NoAxis
+preset_at Waiting s v = refused s NoAxis
 preset_at Started s v = after s (preset_on s.axis v false)
 
 unfoldable pub preset : State → ℤ → Reply
@@ -76,4 +76,4 @@ unfoldable pub reply : State → Form → Reply
 reply s (AxisForm f) = set_up s f
 reply s (Read raw) = read s raw
 reply s (Preset v) = preset s v
-reply s Nothing = refused s no_form
+reply s Nothing = refused s NoForm

@@ -9,7 +9,7 @@ use mir.Val.{SFits, to_z, of_z}
 use Rattle.integer.specs.{octets}
 use Rattle.integer.proofs.{reads, then-number}
 use Rattle.ring.specs.{complement}
-use Rattle.encoder.specs.{Fields, InForce, ◌before◌, fields_of, wrong_buffer, nothing_elapsed, when}
+use Rattle.encoder.specs.{Fields, InForce, ◌before◌, fields_of, WrongBuffer, NothingElapsed, when}
 use Rattle.encoder.proofs.{and_split, before-none, when-none}
 use Rattle.axis_shaft.specs.{Shaft, move_of, moved}
 use Rattle.axis_velocity.specs.{MovedAt, declared.MovedAt.TheVariants.To as ToAt, declared.MovedAt.TheVariants.Refused as NotMovedAt, velocity_of, moved_at}
@@ -63,12 +63,12 @@ nist-fits a raw e = by (faulty_at a raw)
 pub lengths-83 : (class : Bool) (output input e : ℕ) → refusal83 class output input e ≡ 0 → (class ≡ true) × (0 < e) × (output ≡ 4) × (input ≡ 16)
 unfolding refusal83
 lengths-83 class output input e none =
-    let h = before-none (when (not (class && eqb output 4 && eqb input 16)) wrong_buffer) (when (eqb e 0) nothing_elapsed) none in
+    let h = before-none (when (not (class && eqb output 4 && eqb input 16)) WrongBuffer) (when (eqb e 0) NothingElapsed) none in
     let i = and_split (class && eqb output 4) (eqb input 16) (when-none _ 12 h.0) in
     let j = and_split class (eqb output 4) i.0 in
     (j.0, elapsed e h.1, eqb-true _ _ j.1, eqb-true _ _ i.1)
   where
-    elapsed : (e : ℕ) → when (eqb e 0) nothing_elapsed ≡ 0 → 0 < e
+    elapsed : (e : ℕ) → when (eqb e 0) NothingElapsed ≡ 0 → 0 < e
     elapsed zero none = absurd (omega arith)
     elapsed (suc e) none = omega arith
 

@@ -1,7 +1,7 @@
 -- One cycle, put together from its parts (document 01, "One cycle"; rows 13 and 16; request 3): an axis runs the cycle of the class that its parameters
 -- came from.
 use Rattle.std.specs.Prelude.{ℕ, Bool, cond, not, ◌&&◌, List, eqb, length}
-use Rattle.encoder.specs.{Parameters, InForce, wrong_buffer, when, ◌before◌, answer, fields_of}
+use Rattle.encoder.specs.{Parameters, InForce, WrongBuffer, when, ◌before◌, answer, fields_of}
 use Rattle.axis.specs.{Axis, Next, rules_on, axis_refusal}
 use Rattle.cyclic_link.specs.{Link, Life, Control, Reaction, life_of, link_refusal, Classes.reaction}
 use Rattle.cyclic.specs.{declared.Cycled.Cycled, Raw.faulty_at, Raw.taken_at, Preset.preset_by}
@@ -19,7 +19,7 @@ abbrev pub input_octets : Bool → ℕ
 input_octets class = cond class 12 4
 
 unfoldable pub length_refusal : Bool → ℕ → ℕ → ℕ
-length_refusal class output input = when (not (eqb output 4 && eqb input (input_octets class))) wrong_buffer
+length_refusal class output input = when (not (eqb output 4 && eqb input (input_octets class))) WrongBuffer
 
 -- the sign of life of an axis with these parameters (request 3)
 abbrev pub life : Parameters → Life

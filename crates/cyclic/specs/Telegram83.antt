@@ -3,7 +3,7 @@
 use Rattle.std.specs.Prelude.{ℕ, Bool, cond, not, ◌&&◌, List, ◌++◌, eqb, ℤ, pos, length}
 use Rattle.integer.specs.{octets}
 use Rattle.ring.specs.{complement}
-use Rattle.encoder.specs.{wrong_buffer, nothing_elapsed, when, ◌before◌, answer}
+use Rattle.encoder.specs.{WrongBuffer, NothingElapsed, when, ◌before◌, answer}
 use Rattle.axis.specs.{Axis, rules_on, axis_refusal, read_raw}
 use Rattle.axis_velocity.specs.{velocity_of}
 use Rattle.cyclic_link.specs.{Link, link_refusal}
@@ -25,8 +25,8 @@ input83 a k raw e output = input_left a k raw output ++ octets 4 (complement (ni
 -- 13: other lengths than 4 and 16, and a class 2 axis whatever the lengths. 14: nothing elapsed, whatever the raw number
 unfoldable pub refusal83 : Bool → ℕ → ℕ → ℕ → ℕ
 refusal83 class output input e =
-    when (not (class && eqb output 4 && eqb input 16)) wrong_buffer
-    before when (eqb e 0) nothing_elapsed
+    when (not (class && eqb output 4 && eqb input 16)) WrongBuffer
+    before when (eqb e 0) NothingElapsed
 
 -- 16, of the axis or of the link (request 3), 13, 14
 unfoldable pub cycle83_refusal : Axis → Link → ℕ → List ℕ → List ℕ → ℕ

@@ -1,11 +1,11 @@
 -- What holds of a nameplate that is not refused: its bounds, one by one, the due length of a lent buffer, and that its capacity fits.
 pub use borrow.Author.Rules.{rules}
-use Rattle.std.specs.Prelude.{◌≡◌, refl, Bool, true, false, ◌&&◌, not, ℕ, ◌*◌, ◌^◌, ◌≤◌, eqb}
+use Rattle.std.specs.Prelude.{◌≡◌, refl, Bool, true, false, ◌&&◌, not, ℕ, ◌*◌, ◌^◌, ◌≤◌, eqb, Option, None}
 use Rattle.std.proofs.Common.{arith, leb-true, eqb-true}
 use Rattle.std.proofs.lemmas.Bool.{false≢true}
 use Rattle.std.specs.Int.{w64, w32}
 use mir.Val.{Fits}
-use Rattle.encoder.specs.{Nameplate, wrong_buffer, when, plate_refusal, buffer_refusal, capacity_of}
+use Rattle.encoder.specs.{Nameplate, Refusal, WrongBuffer, when, plate_refusal, buffer_refusal, capacity_of}
 use Rattle.encoder.proofs.RefusalLaws.{before-none, when-none}
 use native.Mathlib.Nat as N
 
@@ -28,10 +28,10 @@ pub and_split : (a b : Bool) → (a && b) ≡ true → (a ≡ true) × (b ≡ tr
 and_split true b e = (refl, e)
 and_split false b e = absurd (false≢true e)
 
-pub plated : (n : Nameplate) → plate_refusal n ≡ 0 → Plated n
+pub plated : (n : Nameplate) → plate_refusal n ≡ None → Plated n
 unfolding plate_refusal
 plated n e =
-    let a = and_split _ _ (when-none _ 6 e) in
+    let a = and_split _ _ (when-none _ _ e) in
     let b = and_split _ _ a.0 in
     let c = and_split _ _ b.0 in
     record {
@@ -42,13 +42,14 @@ plated n e =
     }
 
 -- what a call on a plate that fills a lent buffer or list has passed
-pub buffer-passed : (n : Nameplate) (size due later : ℕ) → buffer_refusal n size due later ≡ 0 → (plate_refusal n ≡ 0) × (size ≡ due) × (later ≡ 0)
+pub buffer-passed : (n : Nameplate) (size due : ℕ) (later : Option Refusal) → buffer_refusal n size due later ≡ None
+    → (plate_refusal n ≡ None) × (size ≡ due) × (later ≡ None)
 buffer-passed n size due later e =
     let plate = before-none (plate_refusal n) _ e in
-    let length = before-none (when (not (eqb size due)) wrong_buffer) later plate.1 in
-    (plate.0, eqb-true _ _ (when-none _ 12 length.0), length.1)
+    let length = before-none (when (not (eqb size due)) WrongBuffer) later plate.1 in
+    (plate.0, eqb-true _ _ (when-none _ _ length.0), length.1)
 
-module _ (n : Nameplate) (fits : plate_refusal n ≡ 0) where
+module _ (n : Nameplate) (fits : plate_refusal n ≡ None) where
   pub capacity-most : capacity_of n ≤ 2 ^ 31
   capacity-most = let p = plated n fits in N.mul-le-mul p.steps-most p.turns-most
 

@@ -1,8 +1,8 @@
 -- Accepted parameters put rules within the limits in force: M and L by rows 4 and 5 with scaling on, and by the nameplate without.
-use Rattle.std.specs.Prelude.{◌≡◌, refl, Bool, true, false, ◌||◌, ◌*◌, ◌^◌, ◌≤◌}
+use Rattle.std.specs.Prelude.{◌≡◌, refl, Bool, true, false, ◌||◌, ◌*◌, ◌^◌, ◌≤◌, None}
 use Rattle.std.proofs.Common.{true≢false, arith, leb-true, le-leb, ltb-false}
 use Rattle.std.proofs.lemmas.Bool.{eqb-false}
-use Rattle.encoder.specs.{Nameplate, Parameters, Fields, InForce, reserved_bit, revolution_units, total_range, when, plate_refusal, capacity_of, scaling_on}
+use Rattle.encoder.specs.{Nameplate, Parameters, Fields, InForce, ReservedBit, RevolutionUnits, TotalRange, when, plate_refusal, capacity_of, scaling_on}
 use Rattle.encoder.specs.{reserved_wrong, fields_of, units_wrong, range_wrong, fields_refusal, refusal_on, scale_of, span_of, rules_of, rules_fit, Sound}
 use Rattle.encoder.proofs.{RefusalLaws.before-none, RefusalLaws.when-not, PlateLaws.and_split, PlateLaws.plated, PlateLaws.capacity-most}
 use native.Mathlib.Nat as N
@@ -49,16 +49,16 @@ or_split false b e = (refl, e)
 or_split true b e = absurd (true≢false e)
 
 -- M and L in force, by whether scaling is on
-module _ (n : Nameplate) (f : Fields) (fits : plate_refusal n ≡ 0) (none : fields_refusal n f ≡ 0) where
+module _ (n : Nameplate) (f : Fields) (fits : plate_refusal n ≡ None) (none : fields_refusal n f ≡ None) where
   bounds : (b : Bool) → scaling_on f.operating ≡ b → (1 ≤ scale_of n f) × (scale_of n f ≤ 65536) × (1 ≤ span_of n f) × (span_of n f ≤ 2 ^ 31)
   unfolding fields_refusal
   bounds true on =
       let p = plated n fits in
-      let past3 = before-none (when (reserved_wrong f.class4 f.operating) reserved_bit) _ none in
-      let past4 = before-none (when (units_wrong n f) revolution_units) _ past3.1 in
-      let past5 = before-none (when (range_wrong n f) total_range) _ past4.1 in
-      let u = or_split _ _ (rw on at (when-not (units_wrong n f) 3 past4.0)) in
-      let r = or_split _ _ (rw on at (when-not (range_wrong n f) 4 past5.0)) in
+      let past3 = before-none (when (reserved_wrong f.class4 f.operating) ReservedBit) _ none in
+      let past4 = before-none (when (units_wrong n f) RevolutionUnits) _ past3.1 in
+      let past5 = before-none (when (range_wrong n f) TotalRange) _ past4.1 in
+      let u = or_split _ _ (rw on at (when-not (units_wrong n f) _ past4.0)) in
+      let r = or_split _ _ (rw on at (when-not (range_wrong n f) _ past5.0)) in
       let a = eqb-false f.units.0 0 u.0 in
       let b = ltb-false n.steps.0 f.units.0 u.1 in
       let c = ltb-false f.range.0 f.units.0 r.0 in
@@ -88,6 +88,6 @@ module _ (n : Nameplate) (f : Fields) (fits : plate_refusal n ≡ 0) (none : fie
         span-most = b.3;
       }
 
-pub taken-sound : (n : Nameplate) (p : Parameters) → refusal_on n p ≡ 0 → Sound (rules_of n (fields_of p))
+pub taken-sound : (n : Nameplate) (p : Parameters) → refusal_on n p ≡ None → Sound (rules_of n (fields_of p))
 unfolding refusal_on
 taken-sound n p e = let h = before-none (plate_refusal n) _ e in in-force-sound n (fields_of p) h.0 h.1

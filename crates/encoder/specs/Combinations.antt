@@ -4,7 +4,7 @@
 use Rattle.std.specs.Prelude.{ℕ, Bool, true, false, List, [], ◌∷◌}
 use Rattle.encoder.specs.{declared.nameplate.Nameplate.Nameplate, declared.parameters.Parameters.Parameters}
 use Rattle.encoder.specs.{declared.parameters.Parameters.TheVariants.Class2, declared.parameters.Parameters.TheVariants.Class4}
-use Rattle.encoder.specs.{declared.effect.Effect.Effect, declared.effect.Effect.TheVariants.Taken, Plate.plain_plate}
+use Rattle.encoder.specs.{declared.effect.InForce.InForce, Plate.plain_plate}
 
 -- R = 10, T = 3, so C = 30
 abbrev pub plate : Nameplate
@@ -20,14 +20,13 @@ sent4 operating = Class4 operating (record { 0 = 4 }) (record { 0 = 7 }) 1 0
 -- parameters, and what the paper puts in force
 pub record Combination : Type 0 where
   pub sent : Parameters
-  pub stated : Effect
+  pub stated : InForce
 
 abbrev pub gives : Parameters → ℕ → ℕ → Bool → Bool → Combination
 gives p m l reversed enabled =
     record {
       sent = p;
       stated =
-          Taken (
           record {
             steps = record { 0 = 10 };
             capacity = record { 0 = 30 };
@@ -36,8 +35,7 @@ gives p m l reversed enabled =
             reversed = reversed;
             enabled = enabled;
             speed = 0;
-          }
-          );
+          };
     }
 
 abbrev pub cw : Bool

@@ -1,8 +1,7 @@
 -- What plate and parameters put in force (document 01, end of "Class 4 block").
-use Rattle.std.specs.Prelude.{ℕ, ◌^◌, ◌≤◌, Bool, cond, ◌&&◌, leb}
+use Rattle.std.specs.Prelude.{ℕ, ◌^◌, ◌≤◌, Bool, cond, ◌&&◌, leb, Result, Ok, Err}
 use Rattle.encoder.specs.{declared.nameplate.Nameplate.Nameplate, declared.parameters.Parameters.Parameters, declared.parameters.Fields.Fields}
-use Rattle.encoder.specs.{declared.effect.InForce.InForce, declared.effect.Effect.Effect, declared.effect.Effect.TheVariants.Taken}
-use Rattle.encoder.specs.{declared.effect.Effect.TheVariants.Refused, Refusal.answer, Plate.capacity_of, Operating.class_on, Operating.scaling_on}
+use Rattle.encoder.specs.{declared.effect.InForce.InForce, declared.refusal.Refusal.Refusal, Refusals.answer, Plate.capacity_of, Operating.class_on, Operating.scaling_on}
 use Rattle.encoder.specs.{Operating.reversed_by, Rows.fields_of, Rows.refusal_on}
 
 -- M and L: the fields as sent with scaling in force, otherwise R and C
@@ -25,9 +24,9 @@ rules_of n f =
       speed = f.speed;
     }
 
--- the answer: what is in force, or the number of the refusal
-unfoldable pub in_force : Nameplate → Parameters → Effect
-in_force n p = answer Refused (Taken (rules_of n (fields_of p))) (refusal_on n p)
+-- the answer: what is in force, or the refusal
+unfoldable pub in_force : Nameplate → Parameters → Result InForce Refusal
+in_force n p = answer Err (Ok (rules_of n (fields_of p))) (refusal_on n p)
 
 -- bounds that keep every sum of the axis within its type. They are wider than what plate and parameters put in force: R may be 1, and M above R
 unfoldable pub rules_fit : InForce → Bool

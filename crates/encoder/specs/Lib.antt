@@ -1,10 +1,10 @@
-pub mod Refusal
+pub mod Refusals
 pub mod Plate
 pub mod Operating
 pub mod Rows
 pub mod Force
 pub mod Combinations
-pub use Refusal.{◌before◌, answer, class_off, half_range, no_axis, no_form, nothing_elapsed, other_ident, reserved_bit, revolution_units, speed_unit, total_range, when, wrong_buffer, wrong_length, wrong_preset, wrong_step, wrong_turn}
+pub use Refusals.{◌before◌, answer, checked, number, when}
 unfoldable pub use Plate.{plate_refusal}
 pub use Plate.{buffer_refusal, capacity_of, plain_plate}
 pub use Operating.{class_on, reserved_wrong, reversed_by, scaling_on}
@@ -13,8 +13,6 @@ pub use Rows.{fields_of, parameters_refusal, range_wrong, sign_of_life, speed_wr
 unfoldable pub use Force.{in_force, rules_fit, rules_of}
 pub use Force.{Sound, scale_of, span_of}
 pub use Combinations.{Combination, combinations, plate}
-pub use declared.effect.Effect.{Effect}
-pub use declared.effect.Effect.TheVariants.{Refused, Taken}
 pub use declared.effect.InForce.{InForce}
 pub use declared.nameplate.Nameplate.{Nameplate}
 pub use declared.parameters.Fields.{Fields}
@@ -23,3 +21,5 @@ pub use declared.parameters.Parameters.TheVariants.{Class2, Class4}
 pub use declared.quantity.Steps.{Steps}
 pub use declared.quantity.Turns.{Turns}
 pub use declared.quantity.Units.{Units}
+pub use declared.refusal.Refusal.{Refusal}
+pub use declared.refusal.Refusal.TheVariants.{ClassOff, HalfRange, LifeLimit, NoAxis, NoForm, NothingElapsed, OtherIdent, ReservedBit, RevolutionUnits, SpeedUnit, TotalRange, WrongBuffer, WrongLength, WrongPlate, WrongPreset, WrongStep, WrongTurn}

@@ -1,10 +1,10 @@
 -- The parameters of both classes (document 01, "Class 2 telegram", "Class 4 block"; rows 4 to 7 of "When a call is turned away"; request 3).
-use Rattle.std.specs.Prelude.{ℕ, ◌*◌, Bool, true, false, not, ◌&&◌, ◌||◌, eqb, ltb}
+use Rattle.std.specs.Prelude.{ℕ, ◌*◌, Bool, true, false, not, ◌&&◌, ◌||◌, eqb, ltb, Option}
 use Rattle.integer.specs.{bit}
 use Rattle.encoder.specs.{declared.nameplate.Nameplate.Nameplate, declared.parameters.Parameters.Parameters}
 use Rattle.encoder.specs.{declared.parameters.Parameters.TheVariants.Class2, declared.parameters.Parameters.TheVariants.Class4}
-use Rattle.encoder.specs.{declared.parameters.Fields.Fields, Refusal.reserved_bit, Refusal.revolution_units, Refusal.total_range, Refusal.speed_unit, Refusal.life_limit}
-use Rattle.encoder.specs.{Refusal.when, Refusal.◌before◌, Plate.plate_refusal, Operating.scaling_on, Operating.reserved_wrong}
+use Rattle.encoder.specs.{declared.parameters.Fields.Fields, declared.refusal.Refusal.Refusal, declared.refusal.Refusal.TheVariants.ReservedBit, declared.refusal.Refusal.TheVariants.RevolutionUnits, declared.refusal.Refusal.TheVariants.TotalRange, declared.refusal.Refusal.TheVariants.SpeedUnit, declared.refusal.Refusal.TheVariants.LifeLimit}
+use Rattle.encoder.specs.{Refusals.when, Refusals.◌before◌, Plate.plate_refusal, Operating.scaling_on, Operating.reserved_wrong}
 
 -- the fields by which parameters are judged; class 2 has no sign-of-life limit, and no speed unit: it uses unit 0
 abbrev pub fields_of : Parameters → Fields
@@ -32,18 +32,18 @@ speed_wrong f = ltb 3 f.speed
 abbrev pub life_wrong : Fields → Bool
 life_wrong f = sign_of_life f && eqb f.life 0
 
--- the refusal of parameters on a nameplate within its limits, 0 where they are taken
-unfoldable pub fields_refusal : Nameplate → Fields → ℕ
+-- the refusal of parameters on a nameplate within its limits
+unfoldable pub fields_refusal : Nameplate → Fields → Option Refusal
 fields_refusal n f =
-    when (reserved_wrong f.class4 f.operating) reserved_bit
-    before when (units_wrong n f) revolution_units
-    before when (range_wrong n f) total_range
-    before when (speed_wrong f) speed_unit
-    before when (life_wrong f) life_limit
+    when (reserved_wrong f.class4 f.operating) ReservedBit
+    before when (units_wrong n f) RevolutionUnits
+    before when (range_wrong n f) TotalRange
+    before when (speed_wrong f) SpeedUnit
+    before when (life_wrong f) LifeLimit
 
-abbrev pub parameters_refusal : Nameplate → Parameters → ℕ
+abbrev pub parameters_refusal : Nameplate → Parameters → Option Refusal
 parameters_refusal n p = fields_refusal n (fields_of p)
 
 -- and on any nameplate: the order is 7, 3, 4, 5, 6, 17
-unfoldable pub refusal_on : Nameplate → Parameters → ℕ
+unfoldable pub refusal_on : Nameplate → Parameters → Option Refusal
 refusal_on n p = plate_refusal n before parameters_refusal n p

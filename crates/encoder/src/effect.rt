@@ -6,6 +6,7 @@ use crate::nameplate::Nameplate;
 use crate::operating::{class_on, reversed, scaling};
 use crate::parameters::Parameters;
 use crate::quantity::{Steps, Units};
+use crate::refusal::Refusal;
 
 #[derive(Clone, Copy, PartialEq, Eq)]
 pub struct InForce {
@@ -25,45 +26,27 @@ pub struct InForce {
     pub speed: u8,
 }
 
-#[derive(Clone, Copy, PartialEq, Eq)]
-pub enum Effect {
-    Taken(InForce),
-    Refused(u8),
-}
-
-pub fn in_force(plate: Nameplate, parameters: Parameters) -> Effect
+pub fn in_force(plate: Nameplate, parameters: Parameters) -> Result<InForce, Refusal>
     ensures { result ≡ in_force plate parameters }
 {
-    let n = parameters.refusal(plate);
-    if n != 0 {
-        return Effect::Refused(n);
-    }
+    parameters.check(plate)?;
     let f = parameters.fields();
     let steps = plate.steps;
     let capacity = plate.capacity();
     let reversed = reversed(f.class4, f.operating);
     let enabled = class_on(f.operating);
-    let speed = f.speed;
-    if scaling(f.operating) {
-        let scale = f.units;
-        let span = f.range;
-        return Effect::Taken(InForce {
-            steps,
-            capacity,
-            scale,
-            span,
-            reversed,
-            enabled,
-            speed,
-        });
-    }
-    Effect::Taken(InForce {
+    let (scale, span) = if scaling(f.operating) {
+        (f.units, f.range)
+    } else {
+        (Units(steps.0 as u32), Units(capacity.0 as u32))
+    };
+    Ok(InForce {
         steps,
         capacity,
-        scale: Units(steps.0 as u32),
-        span: Units(capacity.0 as u32),
+        scale,
+        span,
         reversed,
         enabled,
-        speed,
+        speed: f.speed,
     })
 }

@@ -1,10 +1,9 @@
 // The nameplate of a device (document 01, "Plate and reading").
-ghost use Rattle.std.specs.Prelude.{◌≡◌, ◌≤◌, ◌^◌};
-ghost use Rattle.encoder.specs.{plate_refusal, buffer_refusal, capacity_of, plain_plate};
+ghost use Rattle.std.specs.Prelude.{◌≡◌, ◌≤◌, ◌^◌, None};
+ghost use Rattle.encoder.specs.{checked, plate_refusal, buffer_refusal, capacity_of, plain_plate};
 
 use crate::quantity::{Steps, Turns};
-use crate::refusal;
-use crate::refusal::{first, when};
+use crate::refusal::{Refusal, refuse};
 
 #[derive(Clone, Copy, PartialEq, Eq)]
 pub struct Nameplate {
@@ -31,27 +30,27 @@ impl Nameplate {
         }
     }
 
-    // The refusal of the nameplate, 0 where R and T are within their limits.
-    pub fn refusal(self) -> u8
-        ensures { result ≡ plate_refusal self }
+    // Refuses a nameplate with R or T outside its limits.
+    pub fn check(self) -> Result<(), Refusal>
+        ensures { result ≡ checked (plate_refusal self) }
     {
         let steps = self.steps.0;
         let turns = self.turns.0;
         let within = (2 <= steps) & (steps <= 65536) & (1 <= turns) & (turns <= 32768);
-        when(!within, refusal::PLATE)
+        refuse(!within, Refusal::WrongPlate)
     }
 
-    // The refusal of a call that fills a lent buffer or list of a due length, before its later refusals.
-    pub fn buffer_refusal(self, size: usize, due: usize, later: u8) -> u8
-        ensures { result ≡ buffer_refusal self size due later }
+    // The first refusals of a call that fills a lent buffer or list of a due length.
+    pub fn check_buffer(self, size: usize, due: usize) -> Result<(), Refusal>
+        ensures { result ≡ checked (buffer_refusal self size due None) }
     {
-        let size_wrong = when(size != due, refusal::BUFFER);
-        first(self.refusal(), first(size_wrong, later))
+        self.check()?;
+        refuse(size != due, Refusal::WrongBuffer)
     }
 
     // C, the steps of all turns.
     pub(crate) fn capacity(self) -> Steps
-        requires { plate_refusal self ≡ 0 }
+        requires { plate_refusal self ≡ None }
         ensures { (result.0 ≡ capacity_of self) × (result.0 ≤ 2 ^ 31) }
     {
         Steps(self.steps.0 * self.turns.0 as u64)

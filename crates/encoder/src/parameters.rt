@@ -1,12 +1,11 @@
 // The parameters of both classes, kept as sent, and their refusals (document 01, "Class 2 telegram" and "Class 4 block").
 ghost use Rattle.std.specs.Prelude.{◌≡◌};
-ghost use Rattle.encoder.specs.{fields_of, sign_of_life, fields_refusal, refusal_on};
+ghost use Rattle.encoder.specs.{checked, fields_of, sign_of_life, fields_refusal, refusal_on};
 
 use crate::nameplate::Nameplate;
 use crate::operating::{reserved, scaling};
 use crate::quantity::Units;
-use crate::refusal;
-use crate::refusal::{first, when};
+use crate::refusal::{Refusal, refuse};
 use octets::bit;
 
 // A bit of the block's first octet. While it is 0, the control expects profile version 3.1.
@@ -42,11 +41,12 @@ pub struct Fields {
 }
 
 impl Parameters {
-    // The refusal of the parameters on a nameplate, 0 where they are taken.
-    pub fn refusal(self, plate: Nameplate) -> u8
-        ensures { result ≡ refusal_on plate self }
+    // Refuses parameters that a nameplate does not take, and a nameplate outside its limits.
+    pub fn check(self, plate: Nameplate) -> Result<(), Refusal>
+        ensures { result ≡ checked (refusal_on plate self) }
     {
-        first(plate.refusal(), self.fields().refusal(plate))
+        plate.check()?;
+        self.fields().check(plate)
     }
 
     // The fields that the rules use.
@@ -92,9 +92,9 @@ impl Fields {
         self.class4 & !bit(self.operating as u32, COMPATIBLE)
     }
 
-    // The refusal on a nameplate within its limits.
-    fn refusal(self, plate: Nameplate) -> u8
-        ensures { result ≡ fields_refusal plate self }
+    // Refuses the fields on a nameplate within its limits.
+    fn check(self, plate: Nameplate) -> Result<(), Refusal>
+        ensures { result ≡ checked (fields_refusal plate self) }
     {
         let steps = plate.steps.0;
         let units = self.units.0 as u64;
@@ -103,12 +103,11 @@ impl Fields {
         let most = units * plate.turns.0 as u64;
         let units_outside = (units == 0) | (steps < units);
         let range_outside = (range < units) | (most < range);
-        let bits_wrong = when(reserved(self.class4, self.operating), refusal::RESERVED_BIT);
-        let units_wrong = when(scaling & units_outside, refusal::REVOLUTION_UNITS);
-        let range_wrong = when(scaling & range_outside, refusal::TOTAL_RANGE);
-        let speed_wrong = when(3 < self.speed, refusal::SPEED_UNIT);
-        let life_wrong = when(self.sign_of_life() & (self.life == 0), refusal::LIFE_LIMIT);
-        let later = first(speed_wrong, life_wrong);
-        first(bits_wrong, first(units_wrong, first(range_wrong, later)))
+        let no_limit = self.sign_of_life() & (self.life == 0);
+        refuse(reserved(self.class4, self.operating), Refusal::ReservedBit)?;
+        refuse(scaling & units_outside, Refusal::RevolutionUnits)?;
+        refuse(scaling & range_outside, Refusal::TotalRange)?;
+        refuse(3 < self.speed, Refusal::SpeedUnit)?;
+        refuse(no_limit, Refusal::LifeLimit)
     }
 }

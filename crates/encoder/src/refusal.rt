@@ -1,68 +1,68 @@
-// The numbers of the refusals, named with the trade's words (document 01, "When a call is turned away"), and their order.
+// The refusals, named with the trade's words, each with its number (document 01, "When a call is turned away").
 ghost use Rattle.std.specs.Prelude.{◌≡◌};
-ghost use Rattle.encoder.specs.{when, ◌before◌};
+ghost use Rattle.encoder.specs.{number, checked, when};
 
-// Telegram not 17 octets, block not 11.
-pub const LENGTH: u8 = 1;
+use std::error::Error;
+use std::fmt;
 
-// Class 2 ident differs from the nameplate.
-pub const IDENT: u8 = 2;
-
-// A bit with one allowed state has the other.
-pub const RESERVED_BIT: u8 = 3;
-
-// Scaling in force, field 0 or above R.
-pub const REVOLUTION_UNITS: u8 = 4;
-
-// Scaling in force, field below M or above M × T.
-pub const TOTAL_RANGE: u8 = 5;
-
-// Above 3.
-pub const SPEED_UNIT: u8 = 6;
-
-// R or T outside its limits.
-pub const PLATE: u8 = 7;
-
-// Step at or above R.
-pub const STEP: u8 = 8;
-
-// Turn at or above T, or raw number at or above C.
-pub const TURN: u8 = 9;
-
-// Difference exactly C / 2.
-pub const HALF_RANGE: u8 = 10;
-
-// Value not between -L and L, ends excluded.
-pub const PRESET: u8 = 11;
-
-// Preset called or held value set, class bit 0.
-pub const CLASS_OFF: u8 = 12;
-
-// A lent buffer or list not exactly of its length.
-pub const BUFFER: u8 = 13;
-
-// No time has passed.
-pub const ELAPSED: u8 = 14;
-
-// Line is no form, or too much input.
-pub const FORM: u8 = 15;
-
-// No started axis, or a record outside its limits.
-pub const NO_AXIS: u8 = 16;
-
-// Sign-of-life limit 0 while block bit 5 is 0.
-pub const LIFE_LIMIT: u8 = 17;
-
-// The refusal n where a test holds, and else none.
-pub fn when(test: bool, n: u8) -> u8
-    ensures { result ≡ when test n }
-{
-    if test { n } else { 0 }
+#[derive(Clone, Copy, Debug, PartialEq, Eq)]
+pub enum Refusal {
+    // telegram not 17 octets, block not 11
+    WrongLength = 1,
+    // class 2 ident differs from the nameplate
+    OtherIdent = 2,
+    // a bit with one allowed state has the other
+    ReservedBit = 3,
+    // scaling in force, field 0 or above R
+    RevolutionUnits = 4,
+    // scaling in force, field below M or above M × T
+    TotalRange = 5,
+    // above 3
+    SpeedUnit = 6,
+    // R or T outside its limits
+    WrongPlate = 7,
+    // step at or above R
+    WrongStep = 8,
+    // turn at or above T, or raw number at or above C
+    WrongTurn = 9,
+    // difference exactly C / 2
+    HalfRange = 10,
+    // value not between -L and L, ends excluded
+    WrongPreset = 11,
+    // preset called or held value set, class bit 0
+    ClassOff = 12,
+    // a lent buffer or list not exactly of its length
+    WrongBuffer = 13,
+    // no time has passed
+    NothingElapsed = 14,
+    // line is no form, or too much input
+    NoForm = 15,
+    // no started axis, or a record outside its limits
+    NoAxis = 16,
+    // sign-of-life limit 0 while block bit 5 is 0
+    LifeLimit = 17,
 }
 
-// The first refusal of two, in their order: 0 is none.
-pub fn first(one: u8, other: u8) -> u8
-    ensures { result ≡ (one before other) }
+impl Refusal {
+    // The number of its row.
+    pub fn number(self) -> u8
+        ensures { result ≡ number self }
+    {
+        self as u8
+    }
+}
+
+impl fmt::Display for Refusal {
+    fn fmt<W: fmt::Write>(&self, f: &mut fmt::Formatter<W>) -> fmt::Result {
+        write!(f, "refused {}", self.number())
+    }
+}
+
+impl Error for Refusal {}
+
+// Refuses where a test holds.
+pub fn refuse(test: bool, refusal: Refusal) -> Result<(), Refusal>
+    ensures { result ≡ checked (when test refusal) }
 {
-    if one != 0 { one } else { other }
+    if test { Err(refusal) } else { Ok(()) }
 }

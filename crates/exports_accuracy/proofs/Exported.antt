@@ -3,7 +3,7 @@
 -- within its limits.
 use Rattle.std.specs.Prelude.{◌≡◌, refl, not, List, [], ◌∷◌, ℕ, zero, suc, eqb, ℤ, length}
 use Rattle.std.proofs.Common.{sym, ap, ◌∙◌}
-use Rattle.encoder.specs.{wrong_buffer, when, ◌before◌, plate_refusal}
+use Rattle.encoder.specs.{WrongBuffer, when, ◌before◌, plate_refusal}
 use Rattle.encoder.proofs.{before-assoc, before-none}
 use Rattle.axis_shaft.specs.{started}
 use Rattle.axis.specs.{Axis, Next, rules_on, next, fresh, read_raw, start_raw}
@@ -44,7 +44,7 @@ module _ (d : Device) (first : ℕ) (raws positions : List ℕ) where
   plate = plate_refusal d.plate
 
   abbrev lengths : ℕ
-  lengths = when (not (eqb (length raws) (length positions))) wrong_buffer
+  lengths = when (not (eqb (length raws) (length positions))) WrongBuffer
 
   abbrev start : ℕ
   start = start_by d (first_number first)

@@ -10,7 +10,7 @@
 -- The claim is of any function that C could call so, and sees only its answer and the list that it leaves. Worthless.antt in proofs/
 -- refutes functions that show one position throughout or turn every call away, and Exported.antt proves the claim of ours.
 use Rattle.std.specs.Prelude.{◌≡◌, not, List, ℕ, eqb, ℤ, length}
-use Rattle.encoder.specs.{wrong_buffer, when, ◌before◌, plate_refusal, plain_plate}
+use Rattle.encoder.specs.{WrongBuffer, when, ◌before◌, plate_refusal, plain_plate}
 use Rattle.accuracy.specs.{first_number, batching, Device, start_by, opened, refusal_by, Supposed, Entries}
 use Rattle.exports.specs.{parameters_of, run_refusal, ran}
 
@@ -54,7 +54,7 @@ abbrev pub refusal : Arguments → ℕ
 refusal c =
     let d = device c in
     plate_refusal d.plate
-    before when (not (eqb (length c.raws) (length c.positions))) wrong_buffer
+    before when (not (eqb (length c.raws) (length c.positions))) WrongBuffer
     before start_by d (first_number c.first)
     before refusal_by d (opened d c.first) (batching c.raws c.positions)
 

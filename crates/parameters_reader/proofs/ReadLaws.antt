@@ -4,7 +4,7 @@ use Rattle.std.specs.Prelude.{◌≡◌, not, List, ℕ, ◌%◌, ◌^◌, eqb, 
 use Rattle.std.proofs.Common.{sym, ap, ◌∙◌, arith, eqb-true}
 use Rattle.integer.specs.{big_endian}
 use Rattle.integer.proofs.{known, Octets.Octets, big_endian-part}
-use Rattle.encoder.specs.{Nameplate, Parameters, Class2, Class4, other_ident, when, ◌before◌, plate_refusal, parameters_refusal, refusal_on}
+use Rattle.encoder.specs.{Nameplate, Parameters, Class2, Class4, OtherIdent, when, ◌before◌, plate_refusal, parameters_refusal, refusal_on}
 use Rattle.encoder.proofs.{before-none, when-none}
 use Rattle.parameters_reader.specs.{Received, received, frame_refusal, ident_in, ident_refusal, telegram_parameters, block_parameters}
 
@@ -21,7 +21,7 @@ module _ (n : Nameplate) (t : List ℕ) (os : Octets t) (u l k : ℕ) (r : Recei
   judged q is = let e : k ≡ parameters_refusal n p = k-is ∙ rw none in sym (e ∙ ap (parameters_refusal n) is)
 
   pub telegram-judged : (i w m : ℕ) → length t ≡ 17 → i ≡ big_endian (take 2 (drop 4 t)) % 2 ^ 32 → r ≡ received m p → m ≡ (w before k)
-      → w ≡ when (not (eqb i n.ident)) other_ident → p ≡ Class2 (get_or t 8 0) (record { 0 = u }) (record { 0 = l })
+      → w ≡ when (not (eqb i n.ident)) OtherIdent → p ≡ Class2 (get_or t 8 0) (record { 0 = u }) (record { 0 = l })
       → u ≡ big_endian (take 4 (drop 9 t)) % 2 ^ 32 → l ≡ big_endian (take 4 (drop 13 t)) % 2 ^ 32
       → r ≡ received (ident_refusal n t before parameters_refusal n (telegram_parameters t)) (telegram_parameters t)
   telegram-judged i w m long i-is r-is m-is w-is p-is u-is l-is =

@@ -1,7 +1,7 @@
 -- The readers of both classes (document 01, "Class 2 telegram", "Class 4 block"; rows 1, 2 and 7 of "When a call is turned away").
 use Rattle.std.specs.Prelude.{ℕ, not, List, eqb, length}
 use Rattle.integer.specs.{octet, part, big_endian}
-use Rattle.encoder.specs.{Nameplate, Parameters, Class2, Class4, wrong_length, other_ident, when, ◌before◌, answer, plate_refusal, parameters_refusal}
+use Rattle.encoder.specs.{Nameplate, Parameters, Class2, Class4, WrongLength, OtherIdent, when, ◌before◌, answer, plate_refusal, parameters_refusal}
 use Rattle.parameters_reader.specs.{declared.Received.Received, declared.Received.TheVariants.Taken, declared.Received.TheVariants.Refused}
 
 -- the answer of a reader: the parameters, or the number of the refusal
@@ -10,7 +10,7 @@ received n p = answer Refused (Taken p) n
 
 -- before an octet is read: 7, then 1 where there are not as many octets as are due
 abbrev pub frame_refusal : Nameplate → ℕ → ℕ → ℕ
-frame_refusal n octets due = plate_refusal n before when (not (eqb octets due)) wrong_length
+frame_refusal n octets due = plate_refusal n before when (not (eqb octets due)) WrongLength
 
 -- class 2, octets 5 and 6
 abbrev pub ident_in : List ℕ → ℕ
@@ -18,7 +18,7 @@ ident_in t = big_endian (part 5 6 t)
 
 -- 2: the ident differs from the plate
 abbrev pub ident_refusal : Nameplate → List ℕ → ℕ
-ident_refusal n t = when (not (eqb (ident_in t) n.ident)) other_ident
+ident_refusal n t = when (not (eqb (ident_in t) n.ident)) OtherIdent
 
 -- octets 9, 10 to 13 and 14 to 17
 abbrev pub telegram_parameters : List ℕ → Parameters

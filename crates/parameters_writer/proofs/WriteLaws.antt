@@ -5,7 +5,7 @@ use Rattle.std.proofs.Common.{sym, ◌∙◌}
 use borrow.Rule.Slice.PartMut.{put_mid}
 use Rattle.integer.specs.{octets}
 use Rattle.integer.proofs.{known}
-use Rattle.encoder.specs.{Units, Nameplate, Parameters, wrong_buffer, when, ◌before◌, plate_refusal, buffer_refusal, parameters_refusal, refusal_on}
+use Rattle.encoder.specs.{Units, Nameplate, Parameters, WrongBuffer, when, ◌before◌, plate_refusal, buffer_refusal, parameters_refusal, refusal_on}
 use Rattle.encoder.proofs.{before-again, buffer-passed}
 use Rattle.parameters_writer.specs.{length_of, telegram_of, block_of, write_refusal}
 
@@ -36,7 +36,7 @@ block-filled t v w operating units range life speed h q r =
 -- the parameters' own 7 never comes: the nameplate's comes first
 pub write-number : (n : Nameplate) (p : Parameters) (size : ℕ) → buffer_refusal n size (length_of p) (refusal_on n p) ≡ write_refusal n p size
 unfolding write_refusal refusal_on
-write-number n p size = before-again (plate_refusal n) (parameters_refusal n p) (λ (m : ℕ). when (not (eqb size (length_of p))) wrong_buffer before m)
+write-number n p size = before-again (plate_refusal n) (parameters_refusal n p) (λ (m : ℕ). when (not (eqb size (length_of p))) WrongBuffer before m)
 
 -- an accepted write has passed the tests of nameplate, length and parameters
 module _ (n : Nameplate) (p : Parameters) (size : ℕ) where

@@ -4,7 +4,7 @@ use Rattle.std.specs.Prelude.{◌≡◌, refl, ℕ, zero, suc, ◌+◌, ◌*◌,
 use Rattle.std.proofs.Common.{sym, ◌∙◌, arith, leb-false}
 use Rattle.std.specs.Int.{w64, w32}
 use mir.Val.{Fits}
-use Rattle.encoder.specs.{Nameplate, wrong_step, when, answer, plate_refusal, capacity_of}
+use Rattle.encoder.specs.{Nameplate, WrongStep, when, answer, plate_refusal, capacity_of}
 use Rattle.encoder.proofs.{before-none, when-not, capacity-most}
 use Rattle.sensor.specs.{Reading, Number, Refused, raw_of, step_refusal, numbered}
 use native.Mathlib.Nat as N
@@ -14,7 +14,7 @@ module _ (n : Nameplate) (s t : ℕ) where
   unfolding step_refusal
   within e =
       let plate = before-none (plate_refusal n) _ e in
-      let step = before-none (when (leb n.steps.0 s) wrong_step) _ plate.1 in
+      let step = before-none (when (leb n.steps.0 s) WrongStep) _ plate.1 in
       (plate.0, leb-false _ _ (when-not _ 7 step.0), leb-false _ _ (when-not (leb n.turns.0 t) 8 step.1))
 
   -- a turn of the sensor and its steps are within C

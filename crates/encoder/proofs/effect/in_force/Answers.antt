@@ -1,24 +1,18 @@
 use Rattle.std.proofs.Common.{rules}
-use Rattle.encoder.specs.{in_force}
-use Rattle.encoder.proofs.{ForceLaws.asks, ForceLaws.force}
+use Rattle.encoder.specs.{in_force, rules_of}
+use Rattle.encoder.proofs.{ForceLaws.force}
 use Rattle.encoder.proofs.effect.in_force.Goals as goal
 
-pub returns-then-n-ne0 : goal.returns-then-n-ne0
+pub returns-in_err-check : goal.returns-in_err-check
 unfolding in_force
-returns-then-n-ne0 c = search (rules, force, asks)
+returns-in_err-check c = search (rules)
 
 pub capacity-capacity-requires : goal.capacity-capacity-requires
-unfolding in_force
-capacity-capacity-requires c = search (rules, force, asks)
+capacity-capacity-requires c = search (rules, force)
 
-pub returns-then-scaling : goal.returns-then-scaling
-unfolding in_force
-returns-then-scaling c = search (rules, force, asks)
-
-pub overflow_cast-result : goal.overflow_cast-result
-unfolding in_force
-overflow_cast-result c = search (rules, force, asks)
+pub overflow_cast-steps : goal.overflow_cast-steps
+overflow_cast-steps c = search (rules, force)
 
 pub returns : goal.returns
-unfolding in_force
-returns c = search (rules, force, asks)
+unfolding in_force rules_of
+returns c = search (rules, force)

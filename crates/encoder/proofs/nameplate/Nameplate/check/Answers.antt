@@ -1,6 +1,6 @@
 use Rattle.std.proofs.Common.{rules}
 use Rattle.encoder.specs.{plate_refusal}
-use Rattle.encoder.proofs.nameplate.Nameplate.refusal.Goals as goal
+use Rattle.encoder.proofs.nameplate.Nameplate.check.Goals as goal
 
 pub returns : goal.returns
 unfolding plate_refusal
