@@ -1,32 +1,14 @@
--- The refusal and the new offset. A place on a ring of 32 bits fits its word, and so does its difference to a number of 32 bits.
+-- The new offset. A place on a ring of 32 bits fits its word, and so does its difference to a number of 32 bits.
 pub use borrow.Author.Rules.{rules}
-use Rattle.std.specs.Prelude.{◌≡◌, refl, Bool, true, false, not, ℕ, zero, suc, ◌≤◌, ◌<◌, ◌^◌, ℤ, pos, ◌+ℤ◌, ◌-ℤ◌}
+use Rattle.std.specs.Prelude.{◌≡◌, refl, Bool, true, false, ℕ, zero, suc, ◌≤◌, ◌<◌, ◌^◌, ℤ, pos, ◌+ℤ◌, ◌-ℤ◌}
 use Rattle.std.proofs.Common.{◌∙◌, arith}
 use Rattle.std.proofs.Math.IntN.{+ℤ_idl}
 use Rattle.std.specs.Int.{w64, w32}
 use mir.Val.{Fits, SFits, to_z, of_z}
 use Rattle.integer.proofs.{reads, fits-abs, diff-fits, diff-reads, modulo-lt}
-use Rattle.ring.specs.{on_ring, in_range}
+use Rattle.ring.specs.{on_ring}
 use Rattle.ring.proofs.{on-ring, on_none}
-use Rattle.encoder.specs.{InForce}
-use Rattle.axis_offset.specs.{value_refusal, offset_by}
-
--- ---- the refusals
-module _ (f : InForce) (v : ℤ) where
-  pub value-12 : not f.enabled ≡ true → 12 ≡ value_refusal f v
-  unfolding value_refusal
-  value-12 t = rw t
-
-  module _ (b : Bool) (t : not f.enabled ≡ false) (fits : SFits w64 v) where
-    pub value-11 : not b ≡ true → b ≡ in_range (to_z w64 (of_z w64 v)) f.span.0 → 11 ≡ value_refusal f v
-    unfolding value_refusal
-    value-11 n b-is = rw (t, ← reads fits, ← b-is, n)
-
-    pub value_none : not b ≡ false → b ≡ in_range (to_z w64 (of_z w64 v)) f.span.0 → 0 ≡ value_refusal f v
-    unfolding value_refusal
-    value_none n b-is = rw (t, ← reads fits, ← b-is, n)
-
-pub ruleset values = (value-12, value-11, value_none)
+use Rattle.axis_offset.specs.{offset_by}
 
 -- ---- the offset
 on-ring-most : (z : ℤ) (n : ℕ) → on_ring z n ≤ n

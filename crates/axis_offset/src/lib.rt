@@ -2,25 +2,20 @@
 #![tactic(auto)]
 
 ghost use Rattle.std.specs.Prelude.{◌≡◌};
+ghost use Rattle.encoder.specs.{checked};
 ghost use Rattle.axis_offset.specs.{value_refusal, offset_by};
 
 use encoder::effect::InForce;
 use encoder::quantity::Units;
-use encoder::refusal;
+use encoder::refusal::{Refusal, refuse};
 use ring::between;
 
-// The refusal of a preset value or of a held preset value, 0 where it is taken.
-pub fn value_refusal(rules: InForce, value: i64) -> u8
-    ensures { result ≡ value_refusal rules value }
+// Refuses a preset value or a held preset value.
+pub fn check_value(rules: InForce, value: i64) -> Result<(), Refusal>
+    ensures { result ≡ checked (value_refusal rules value) }
 {
-    if !rules.enabled {
-        return refusal::CLASS_OFF;
-    }
-    let span = rules.span.0;
-    if !between(value, span) {
-        return refusal::PRESET;
-    }
-    0
+    refuse(!rules.enabled, Refusal::ClassOff)?;
+    refuse(!between(value, rules.span.0), Refusal::WrongPreset)
 }
 
 // The offset after a preset: new position - unshifted position.

@@ -2,18 +2,16 @@
 -- reading a walk keeps what the readings to come will give; at the end of the list nothing is left.
 use Rattle.std.specs.Prelude.{◌≡◌, refl, Bool, true, false, not, ◌&&◌, ◌||◌, leb, ◌/◌, List, [], ◌∷◌, ℕ, suc, ◌+◌, ◌≤◌, ◌<◌}
 use Rattle.std.proofs.Common.{sym, ◌∙◌, true≢false, leb-false, ltb-true}
-use Rattle.std.proofs.lemmas.Bool.{not-true}
-use Rattle.std.specs.Prelude.{ℤ, nat_abs, length, get_or, drop, eqb}
-use Rattle.std.proofs.Common.{add-one, arith, drop_of_length-le, drop-cons, eq-eqb, ne_eqb, eqb-true}
-use Rattle.std.proofs.lemmas.Bool.{not-false}
+use Rattle.std.specs.Prelude.{ℤ, nat_abs, length, get_or, drop, eqb, Option, None, Some, Result, Err}
+use Rattle.std.proofs.Common.{add-one, arith, drop_of_length-le, drop-cons, eqb-true}
 use Rattle.std.specs.Int.{w64, w32}
 use mir.Val.{Fits, SFits, to_z, of_z}
 use Rattle.integer.proofs.{reads}
 use Rattle.ring.specs.{in_range}
-use Rattle.encoder.specs.{InForce, Sound, WrongBuffer, NoAxis, when, ◌before◌}
-use Rattle.encoder.proofs.{before-first, before-none, when-none, and_split}
+use Rattle.encoder.specs.{InForce, Refusal, Sound, WrongBuffer, NoAxis, when, ◌before◌, checked}
+use Rattle.encoder.proofs.{answer-yes, before-none, unrefused, refused-by, when-none, and_split}
 use Rattle.axis_shaft.specs.{Shaft, inside, Inside, move_refusal, refusal_in, batch_refusal, gap, doubtful}
-use Rattle.axis_shaft.proofs.{SensorLaws.taken-lt, SensorLaws.not-doubtful, ShaftLaws.inside-true}
+use Rattle.axis_shaft.proofs.{SensorLaws.raw-lt, SensorLaws.not-doubtful, ShaftLaws.inside-true}
 
 -- ---- the look through all readings
 or-false : (a : Bool) → (a || false) ≡ a
@@ -43,7 +41,7 @@ both_false : (a b : Bool) → (a || b) ≡ false → (a ≡ false) × (b ≡ fal
 both_false true b e = absurd (true≢false e)
 both_false false b e = (refl, e)
 
-pub taken_none : (f : InForce) (last : ℕ) (s : List ℕ) → Sound f → last < f.capacity.0 → doubtful f.capacity.0 last s ≡ false → refusal_in f last s ≡ 0
+pub taken_none : (f : InForce) (last : ℕ) (s : List ℕ) → Sound f → last < f.capacity.0 → doubtful f.capacity.0 last s ≡ false → refusal_in f last s ≡ None
 unfolding doubtful refusal_in
 taken_none f last [] so lt e = refl
 taken_none f last (raw ∷ raws) so lt e =
@@ -59,68 +57,64 @@ module _ (f : InForce) (last : ℕ) (so : Sound f) where
     pub last-narrow : Fits w32 last
     last-narrow = record { fits = omega (arith, so.capacity-most) }
 
-    pub among_none : (s : List ℕ) (found : Bool) → not found ≡ true → found ≡ doubtful f.capacity.0 last s → 0 ≡ refusal_in f last s
-    among_none s found quiet found-is = sym (taken_none f last s so lt (sym found-is ∙ not-true found quiet))
+    pub among_none : (s : List ℕ) (found : Bool) → found ≡ false → found ≡ doubtful f.capacity.0 last s → refusal_in f last s ≡ None
+    among_none s found quiet found-is = taken_none f last s so lt (sym found-is ∙ quiet)
 
-pub ruleset among = (capacity-narrow, last-narrow, among_none)
+pub ruleset among = (answer-yes, capacity-narrow, last-narrow, among_none)
 
 -- ---- the first walk
-module _ (f : InForce) (s : List ℕ) (i last r : ℕ) (due : refusal_in f last (drop i s) ≡ r) where
-  pub check-end : length s ≤ i → 0 ≡ r
+module _ (f : InForce) (s : List ℕ) (i last : ℕ) (r : Option Refusal) (due : refusal_in f last (drop i s) ≡ r) where
+  pub check-end : length s ≤ i → r ≡ None
   unfolding refusal_in
-  check-end h = rw (drop_of_length-le s h) at due
+  check-end h = sym (rw (drop_of_length-le s h) at due)
 
-  module _ (h : i < length s) (n : ℕ) (n-is : n ≡ move_refusal f last (get_or s i 0)) where
-    pub check-stop : (n ≡ 0 → ⊥) → n ≡ r
+  module _ (h : i < length s) where
+    pub check-stop : (e : Refusal) → move_refusal f last (get_or s i 0) ≡ Some e → r ≡ Some e
     unfolding refusal_in
-    check-stop z = rw (drop-cons s i 0 h, ← n-is, before-first n (refusal_in f (get_or s i 0) (drop (suc i) s)) z) at due
+    check-stop e refused = sym (rw (drop-cons s i 0 h, refused) at due)
 
-    pub check-more : n ≡ 0 → refusal_in f (get_or s i 0) (drop (i + 1) s) ≡ r
+    pub check-more : move_refusal f last (get_or s i 0) ≡ None → refusal_in f (get_or s i 0) (drop (i + 1) s) ≡ r
     unfolding refusal_in
-    check-more z = rw add-one (rw (drop-cons s i 0 h, ← n-is, z) at due)
+    check-more none = rw add-one (rw (drop-cons s i 0 h, none) at due)
 
-pub check-fits : (f : InForce) (last raw n : ℕ) → Sound f → n ≡ 0 → n ≡ move_refusal f last raw → Fits w64 raw
-check-fits f last raw n s z e = record { fits = omega (arith, taken-lt f last raw n z e, s.capacity-most) }
+pub check-fits : (f : InForce) (last raw : ℕ) → Sound f → move_refusal f last raw ≡ None → Fits w64 raw
+check-fits f last raw s none = record { fits = omega (arith, raw-lt f last raw none, s.capacity-most) }
 
-pub ruleset checks = (taken-lt, check-end, check-stop, check-more, check-fits)
+pub ruleset checks = (unrefused, refused-by, raw-lt, check-end, check-stop, check-more, check-fits)
 
--- ---- the number of a batch, by the tests a of the limits and b of the offset
+-- ---- the refusal of a batch, by the tests a of the limits and b of the offset
 in-range-is : (offset : ℤ) (span : ℕ) (b : Bool) → SFits w64 offset → b ≡ in_range (to_z w64 (of_z w64 offset)) span → in_range offset span ≡ b
 in-range-is offset span b fits e = sym (rw (reads fits) at e)
 
-module _ (f : InForce) (k : Shaft) (offset : ℤ) (s : List ℕ) (room : ℕ) (fits : SFits w64 offset) (a b : Bool) where
-  pub number-16 : not (a && b) ≡ true → a ≡ inside f k → b ≡ in_range (to_z w64 (of_z w64 offset)) f.span.0 → 16 ≡ batch_refusal f k offset s room
+module _ (f : InForce) (k : Shaft) (offset : ℤ) (s : List ℕ) (room : ℕ) (fits : SFits w64 offset) (a b : Bool) (a-is : a ≡ inside f k)
+    (b-is : b ≡ in_range (to_z w64 (of_z w64 offset)) f.span.0) where
+  pub batch-16 : (r : Refusal) → when (not (a && b)) NoAxis ≡ Some r → Err r ≡ checked (batch_refusal f k offset s room)
   unfolding batch_refusal
-  number-16 t a-is b-is = rw (← a-is, in-range-is offset _ b fits b-is, t)
+  batch-16 r refused = rw (← a-is, in-range-is offset _ b fits b-is, refused)
 
-  module _ (t : not (a && b) ≡ false) (a-is : a ≡ inside f k) (b-is : b ≡ in_range (to_z w64 (of_z w64 offset)) f.span.0) where
-    pub number-13 : (length s ≡ room → ⊥) → 13 ≡ batch_refusal f k offset s room
+  module _ (none : when (not (a && b)) NoAxis ≡ None) where
+    pub batch-13 : (r : Refusal) → when (not (eqb (length s) room)) WrongBuffer ≡ Some r → Err r ≡ checked (batch_refusal f k offset s room)
     unfolding batch_refusal
-    number-13 l = rw (← a-is, in-range-is offset _ b fits b-is, t, ne_eqb _ _ l)
+    batch-13 r refused = rw (← a-is, in-range-is offset _ b fits b-is, none, refused)
 
-    pub number_in : (n : ℕ) → length s ≡ room → n ≡ refusal_in f k.last.0 s → n ≡ batch_refusal f k offset s room
+    pub batch-in : (x : Result (Unit {0}) Refusal) → when (not (eqb (length s) room)) WrongBuffer ≡ None → x ≡ checked (refusal_in f k.last.0 s)
+        → x ≡ checked (batch_refusal f k offset s room)
     unfolding batch_refusal
-    number_in n l n-is = n-is ∙ rw (← a-is, in-range-is offset _ b fits b-is, t, eq-eqb _ _ l)
+    batch-in x long x-is = x-is ∙ rw (← a-is, in-range-is offset _ b fits b-is, none, long)
 
-  module _ (t : not (a && b) ≡ false) (a-is : a ≡ inside f k) where
-    tested : Inside f k
-    tested = inside-true f k (sym a-is ∙ (and_split a b (not-false (a && b) t)).0)
+module _ (f : InForce) (k : Shaft) (a b : Bool) (a-is : a ≡ inside f k) (none : when (not (a && b)) NoAxis ≡ None) where
+  pub tested : Inside f k
+  tested = inside-true f k (sym a-is ∙ (and_split a b (when-none (a && b) _ none)).0)
 
-    pub tested-sound : Sound f
-    tested-sound = tested.sound
-
-    pub tested-last : k.last.0 < f.capacity.0
-    tested-last = tested.last
-
-pub ruleset numbers = (number-16, number-13, number_in, tested-sound, tested-last)
+pub ruleset numbers = (unrefused, refused-by, batch-16, batch-13, batch-in)
 
 -- ---- an accepted batch: the limits hold, both lists have one length, and no reading is refused
-pub batch-taken : (f : InForce) (k : Shaft) (offset : ℤ) (s : List ℕ) (room : ℕ) → batch_refusal f k offset s room ≡ 0
-    → Inside f k × (nat_abs offset < f.span.0) × (length s ≡ room) × (refusal_in f k.last.0 s ≡ 0)
+pub batch-taken : (f : InForce) (k : Shaft) (offset : ℤ) (s : List ℕ) (room : ℕ) → batch_refusal f k offset s room ≡ None
+    → Inside f k × (nat_abs offset < f.span.0) × (length s ≡ room) × (refusal_in f k.last.0 s ≡ None)
 unfolding batch_refusal in_range
 batch-taken f k offset s room none =
     let later = when (not (eqb (length s) room)) WrongBuffer in
     let limits = before-none (when (not (inside f k && in_range offset f.span.0)) NoAxis) (later before refusal_in f k.last.0 s) none in
     let rest = before-none later (refusal_in f k.last.0 s) limits.1 in
-    let both = and_split (inside f k) (in_range offset f.span.0) (when-none _ 15 limits.0) in
-    (inside-true f k both.0, ltb-true _ _ both.1, eqb-true _ _ (when-none _ 12 rest.0), rest.1)
+    let both = and_split (inside f k) (in_range offset f.span.0) (when-none _ _ limits.0) in
+    (inside-true f k both.0, ltb-true _ _ both.1, eqb-true _ _ (when-none _ _ rest.0), rest.1)

@@ -2,7 +2,7 @@
 -- and rest, and these are at each entry those of the shaft.
 use Rattle.std.specs.Prelude.{◌≡◌, refl, List, [], ◌∷◌, ◌++◌, ℕ, suc, ◌+◌, ◌≤◌, ◌<◌}
 use Rattle.std.proofs.Common.{sym, ◌∙◌, append_assoc, append-nil}
-use Rattle.std.specs.Prelude.{ℤ, pos, ◌+ℤ◌, length, get_or, take, drop, set}
+use Rattle.std.specs.Prelude.{None, ℤ, pos, ◌+ℤ◌, length, get_or, take, drop, set}
 use Rattle.std.proofs.Common.{add-one, arith, ap, length-set, drop_of_length-le, drop-cons, take_all}
 use Rattle.std.specs.Int.{w64}
 use mir.Val.{SFits, to_z, of_z}
@@ -18,17 +18,17 @@ use lib.{Seq.take-suc-set}
 pub record Going (f : InForce) (offset : ℤ) (k₀ : Shaft) (s : List ℕ) (k : Shaft) (i : ℕ) (out : List ℕ) : Type 0 where
   pub long : length s ≡ length out
   pub stands : Inside f k
-  pub none : refusal_in f k.last.0 (drop i s) ≡ 0
+  pub none : refusal_in f k.last.0 (drop i s) ≡ None
   pub ends : after f k (drop i s) ≡ after f k₀ s
   pub writes : take i out ++ positions_in f offset k (drop i s) ≡ positions_in f offset k₀ s
 
-pub going_start : (f : InForce) (offset : ℤ) (k : Shaft) (s out : List ℕ) → Inside f k → length s ≡ length out → refusal_in f k.last.0 s ≡ 0
+pub going_start : (f : InForce) (offset : ℤ) (k : Shaft) (s out : List ℕ) → Inside f k → length s ≡ length out → refusal_in f k.last.0 s ≡ None
     → Going f offset k s k 0 out
 going_start f offset k s out i long none = record { long = long; stands = i; none = none; ends = refl; writes = refl }
 
 module _ (f : InForce) (offset : ℤ) (k₀ : Shaft) (s : List ℕ) (k : Shaft) (i : ℕ) (out : List ℕ) (g : Going f offset k₀ s k i out) where
   module _ (h : i < length s) where
-    parts : (move_refusal f k.last.0 (get_or s i 0) ≡ 0) × (refusal_in f (get_or s i 0) (drop (suc i) s) ≡ 0)
+    parts : (move_refusal f k.last.0 (get_or s i 0) ≡ None) × (refusal_in f (get_or s i 0) (drop (suc i) s) ≡ None)
     unfolding refusal_in
     parts = before-none _ (refusal_in f (get_or s i 0) (drop (suc i) s)) (rw (drop-cons s i 0 h) at g.none)
 
@@ -71,7 +71,7 @@ pub record Following (f : InForce) (offset : ℤ) (r₀ : Running) (s : List ℕ
 again : (f : InForce) (k : Shaft) (r : Running) → Sound f → r ≡ running_of f k → shaft_of f r ≡ k
 again f k r s e = rw (e, shaft-again f s k)
 
-pub following-start : (f : InForce) (offset : ℤ) (k : Shaft) (r : Running) (s out : List ℕ) → Inside f k → length s ≡ length out → refusal_in f k.last.0 s ≡ 0
+pub following-start : (f : InForce) (offset : ℤ) (k : Shaft) (r : Running) (s out : List ℕ) → Inside f k → length s ≡ length out → refusal_in f k.last.0 s ≡ None
     → r ≡ running_of f k → Following f offset r s r 0 out
 following-start f offset k r s out i long none e =
     let same = again f k r i.sound e in

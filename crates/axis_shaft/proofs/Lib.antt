@@ -8,6 +8,6 @@ pub mod RunningLaws
 pub mod EachEntry
 pub mod BatchLaws
 pub mod FollowLaws
-pub use SensorLaws.{by-refused, by-taken, move-fits, move-most, raw-lt}
+pub use SensorLaws.{move-fits, move-most, raw-lt}
 pub use ShorterWay.{shorter-only, shorter-way}
-pub use ShaftLaws.{begun-by, by-to-refused, by-to-taken, inside_is, inside-true, moved-kept, nowhere-out, read-refusal, reported-is, started-kept, to-refused, to-taken}
+pub use ShaftLaws.{begun-by, inside_is, inside-true, moved-kept, nowhere-out, read-refusal, reported-is, started-kept}

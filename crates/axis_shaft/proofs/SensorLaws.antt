@@ -2,7 +2,7 @@
 pub use borrow.Author.Rules.{rules}
 use Rattle.std.specs.Prelude.{◌≡◌, refl, Bool, true, false, cond, ℕ, zero, suc, ◌+◌, ◌-◌, ◌*◌, ◌/◌, ◌^◌, ◌≤◌, ◌<◌, ltb, leb, ℤ, pos, neg_ℤ, nat_abs, ◌-ℤ◌}
 use Rattle.std.proofs.Common.{sym, ◌∙◌, arith}
-use Rattle.std.specs.Prelude.{eqb}
+use Rattle.std.specs.Prelude.{eqb, None, Some, Result, Ok, Err}
 use Rattle.std.proofs.Common.{lt-ltb, le-ltb, ne_eqb, le-leb, leb-true, leb-false}
 use Rattle.std.proofs.lemmas.Bool.{eqb-false, lt-leb}
 use Rattle.std.specs.Int.{w64}
@@ -10,9 +10,9 @@ use mir.Val.{SFits, to_z, of_z}
 use Rattle.std.proofs.lemmas.Int.{to_z_pos}
 use Rattle.integer.specs.{◌modulo◌}
 use Rattle.integer.proofs.{signed, neg_is, diff_is, reads, abs_is, fits-abs, diff-fits, diff-reads, modulo-lt, modulo-is, modulo-alike}
-use Rattle.encoder.specs.{InForce, Sound, WrongTurn, when, answer}
-use Rattle.encoder.proofs.{refused-is, before-none, when-not}
-use Rattle.axis_shaft.specs.{Approach, By, declared.Approach.TheVariants.Refused, oriented, difference, shorter, move_of, half_refusal, move_refusal, approach_from, gap}
+use Rattle.encoder.specs.{InForce, Refusal, Sound, WrongTurn, when, checked}
+use Rattle.encoder.proofs.{before-none, when-not}
+use Rattle.axis_shaft.specs.{oriented, difference, shorter, move_of, half_refusal, move_refusal, approach_from, gap}
 use native.Mathlib.Nat as N
 
 -- ---- 1. the oriented number
@@ -104,27 +104,23 @@ module _ (f : InForce) (last raw : ℕ) where
     unfolding move_of
     move-is = rw (← n-is) d-is
 
-    -- ---- the move, or its refusal
-    pub approach-by : (half : ℕ) → Sound f → raw < f.capacity.0 → half ≡ 0 → half ≡ half_refusal n f.capacity.0 → By (to_z w64 (of_z w64 d)) ≡ approach_from f last raw
+  -- ---- the move, or its refusal, by the tests before it
+  pub below : when (leb f.capacity.0 raw) WrongTurn ≡ None → raw < f.capacity.0
+  below none = leb-false _ _ (when-not _ _ none)
+
+  module _ (n : ℕ) (n-is : n ≡ difference f last raw) (none : when (leb f.capacity.0 raw) WrongTurn ≡ None) where
+    pub approach-half : (r : Refusal) → half_refusal n f.capacity.0 ≡ Some r → Err r ≡ approach_from f last raw
     unfolding approach_from move_refusal
-    approach-by half s lt z half_is = rw (lt-leb _ _ lt, ← n-is, ← half_is, z, move-is, reads (move-fits s))
+    approach-half r half = rw (none, ← n-is, half)
 
-  module _ (n half : ℕ) (n-is : n ≡ difference f last raw) (lt : raw < f.capacity.0) (half_is : half ≡ half_refusal n f.capacity.0) where
-    pub raw-half : half ≡ move_refusal f last raw
+    pub approach-by : (d : ℤ) → Sound f → half_refusal n f.capacity.0 ≡ None → d ≡ shorter n f.capacity.0
+        → Ok (to_z w64 (of_z w64 d)) ≡ approach_from f last raw
+    unfolding approach_from move_refusal
+    approach-by d s half d-is = rw (none, ← n-is, half, move-is n d n-is d-is, reads (move-fits s))
+
+    pub move-half : (x : Result (Unit {0}) Refusal) → x ≡ checked (half_refusal n f.capacity.0) → x ≡ checked (move_refusal f last raw)
     unfolding move_refusal
-    raw-half = rw (lt-leb _ _ lt, ← n-is) half_is
-
-    pub approach-10 : (half ≡ 0 → ⊥) → Refused half ≡ approach_from f last raw
-    unfolding approach_from
-    approach-10 ne = rw (← raw-half) (sym (refused-is Refused (By (move_of f last raw)) half ne))
-
-  pub raw-9 : f.capacity.0 ≤ raw → 9 ≡ move_refusal f last raw
-  unfolding move_refusal
-  raw-9 h = rw (le-leb _ _ h)
-
-  pub approach-9 : f.capacity.0 ≤ raw → Refused 9 ≡ approach_from f last raw
-  unfolding approach_from
-  approach-9 h = rw (← raw-9 h)
+    move-half x x-is = x-is ∙ rw (none, ← n-is)
 
 -- ---- how far apart two raw numbers are
 pub gap_up : (a b : ℕ) → a ≤ b → b - a ≡ gap a b
@@ -155,23 +151,14 @@ gap-half c from to f t e = go (leb from to) refl
     go true b = let k = leb-true from to b in sym (gap_up from to k) ∙ half (rw (← apart-ahead c from to f t k) at e)
     go false b = let k = leb-false from to b in sym (gap_down from to k) ∙ half (omega (arith, rw (← apart-round c from to f t k) at e))
 
--- from the answer back to the number
-pub by-taken : (e : Approach) (z d : ℤ) (n : ℕ) → e ≡ By d → e ≡ answer Refused (By z) n → (n ≡ 0) × (d ≡ z)
-by-taken e z d zero t e-is = let h : By d ≡ By z = sym t ∙ e-is in (refl, cc)
-by-taken e z d (suc n) t e-is = let h : By d ≡ Refused (suc n) = sym t ∙ e-is in let w : ◌≡◌ {A = ℕ} 0 1 = cc in absurd (omega arith)
-
-pub by-refused : (e : Approach) (z : ℤ) (n j : ℕ) → e ≡ Refused j → e ≡ answer Refused (By z) n → (n ≡ j) × (j ≡ 0 → ⊥)
-by-refused e z zero j t e-is = let h : Refused j ≡ By z = sym t ∙ e-is in let w : ◌≡◌ {A = ℕ} 0 1 = cc in absurd (omega arith)
-by-refused e z (suc n) j t e-is = let h : Refused j ≡ Refused (suc n) = sym t ∙ e-is in let w : suc n ≡ j = cc in (w, λ v. omega arith)
-
 -- an accepted reading is below C
-pub raw-lt : (f : InForce) (last raw : ℕ) → move_refusal f last raw ≡ 0 → raw < f.capacity.0
+pub raw-lt : (f : InForce) (last raw : ℕ) → move_refusal f last raw ≡ None → raw < f.capacity.0
 unfolding move_refusal
-raw-lt f last raw h = leb-false _ _ (when-not (leb f.capacity.0 raw) 8 (before-none (when (leb f.capacity.0 raw) WrongTurn) _ h).0)
+raw-lt f last raw h = below f last raw (before-none (when (leb f.capacity.0 raw) WrongTurn) _ h).0
 
 -- a reading below C that is not C/2 from the last one
 pub not-doubtful : (f : InForce) (last raw : ℕ) → Sound f → last < f.capacity.0 → leb f.capacity.0 raw ≡ false → eqb (gap last raw) (f.capacity.0 / 2) ≡ false
-    → move_refusal f last raw ≡ 0
+    → move_refusal f last raw ≡ None
 unfolding move_refusal
 not-doubtful f last raw s lt small far =
     let r-lt = leb-false _ _ small in
@@ -182,13 +169,10 @@ not-doubtful f last raw s lt small far =
     by_way false b r-lt e = gap-half f.capacity.0 last raw lt r-lt (rw (← difference-off f last raw _ b refl) at e)
     by_way true b r-lt e = gap-swap raw last ∙ gap-half f.capacity.0 raw last r-lt lt (rw (← difference-on f last raw _ b lt r-lt refl) at e)
 
-pub taken-lt : (f : InForce) (last raw n : ℕ) → n ≡ 0 → n ≡ move_refusal f last raw → raw < f.capacity.0
-taken-lt f last raw n z e = raw-lt f last raw (sym e ∙ z)
-
 pub ruleset gaps = (gap_up, gap_down)
 
 pub ruleset orients = (oriented-none, oriented-on, oriented-off, apart-ahead, apart-round, difference-off, difference-on)
 
 pub ruleset ways = (back_fits, way-ahead, way_back, move-is)
 
-pub ruleset approaches = (approach-by, approach-9, approach-10, raw-9, raw-half)
+pub ruleset approaches = (below, approach-half, approach-by, move-half)

@@ -1,5 +1,5 @@
 -- The limits of a shaft, as a test and as facts. Then the answers of the public functions but the batch, by the tests before them.
-use Rattle.std.specs.Prelude.{◌≡◌, refl, Bool, true, false, not, ◌&&◌, ℕ, zero, suc, ◌%◌, ◌≤◌, ◌<◌, ltb, leb, ℤ}
+use Rattle.std.specs.Prelude.{◌≡◌, refl, Bool, true, false, not, ◌&&◌, ℕ, ◌%◌, ◌<◌, ltb, leb, ℤ, Option, None, Some, Result, Ok, Err}
 use Rattle.std.proofs.Common.{sym, ◌∙◌, arith, lt-ltb}
 use Rattle.std.proofs.lemmas.Bool.{not-true, not-false}
 use Rattle.std.proofs.Common.{ltb-true, le-leb}
@@ -7,14 +7,12 @@ use Rattle.std.proofs.lemmas.Bool.{lt-leb}
 use Rattle.std.specs.Int.{w64}
 use mir.Val.{SFits, to_z, of_z}
 use Rattle.integer.proofs.{reads, modulo-lt}
-use Rattle.encoder.specs.{Units, InForce, WrongTurn, NoAxis, when, answer, rules_fit, Sound}
-use Rattle.encoder.proofs.{refused-is, before-none, when-none, and_split, sound-of, fits-of}
-use Rattle.axis_shaft.specs.{Shaft, Moved, To, declared.Moved.TheVariants.Refused as NotMoved, MovedBy, declared.MovedBy.TheVariants.To as ToBy}
-use Rattle.axis_shaft.specs.{declared.MovedBy.TheVariants.Refused as NotMovedBy, Approach, By}
-use Rattle.axis_shaft.specs.{declared.Approach.TheVariants.Refused as NotApproached, At, declared.Reported.TheVariants.Refused, period, inside, Inside}
+use Rattle.encoder.specs.{Units, InForce, Refusal, WrongTurn, NoAxis, when, answer, rules_fit, Sound}
+use Rattle.encoder.proofs.{before-none, unrefused, refused-by, value-is, when-none, and_split, sound-of, fits-of}
+use Rattle.axis_shaft.specs.{Shaft, MovedBy, Reported, period, inside, Inside}
 use Rattle.axis_shaft.specs.{nowhere, oriented, started, move_of, move_refusal, moved_to, unshifted, position_at, approach_from, begin_refusal, begun, shaft_refusal}
-use Rattle.axis_shaft.specs.{approached, moved, moved_by, reported_at}
-use Rattle.axis_shaft.proofs.{SensorLaws.move-fits, SensorLaws.raw-lt, SensorLaws.by-taken, SensorLaws.by-refused, PlaceLaws.period-least}
+use Rattle.axis_shaft.specs.{approached, moved, moved_by, positions_at, reported_at}
+use Rattle.axis_shaft.proofs.{SensorLaws.move-fits, SensorLaws.raw-lt, SensorLaws.below, PlaceLaws.period-least}
 use native.Mathlib.Nat as N
 
 -- ---- the limits
@@ -44,140 +42,112 @@ unfolding moved_to
 moved-kept f k raw i h =
     record { sound = i.sound; place = modulo-lt _ (period-least f i.sound); last = h }
 
-module _ (f : InForce) (b : Bool) where
-  pub sound-by : not b ≡ false → b ≡ rules_fit f → Sound f
-  sound-by t e = sound-of f (sym e ∙ not-false b t)
-
-  pub inside-no : (k : Shaft) → not b ≡ true → b ≡ rules_fit f → false ≡ inside f k
+module _ (f : InForce) (b : Bool) (b-is : b ≡ rules_fit f) where
+  pub inside-no : (k : Shaft) → not b ≡ true → false ≡ inside f k
   unfolding inside
-  inside-no k t e = rw (← e, not-true b t)
+  inside-no k t = rw (← b-is, not-true b t)
 
-  pub inside_on : (k : Shaft) (n : ℕ) → n ≡ period f → not b ≡ false → b ≡ rules_fit f
-      → (ltb k.place.0 n && ltb k.last.0 f.capacity.0) ≡ inside f k
+  pub sound-so : not b ≡ false → Sound f
+  sound-so t = sound-of f (sym b-is ∙ not-false b t)
+
+  pub inside_on : (k : Shaft) (n : ℕ) → n ≡ period f → not b ≡ false → (ltb k.place.0 n && ltb k.last.0 f.capacity.0) ≡ inside f k
   unfolding inside
-  inside_on k n n-is t e = rw (← e, not-false b t, n-is)
+  inside_on k n n-is t = rw (← b-is, not-false b t, n-is)
 
-pub ruleset limits = (sound-by, inside-no, inside_on)
-
--- ---- the start
-module _ (f : InForce) (raw : ℕ) (b : Bool) where
-  pub begun-16 : not b ≡ true → b ≡ rules_fit f → NotMoved 16 ≡ begun f raw
-  unfolding begun begin_refusal
-  begun-16 t e = rw (← e, not-true b t)
-
-  pub begun-9 : f.capacity.0 ≤ raw → not b ≡ false → b ≡ rules_fit f → NotMoved 9 ≡ begun f raw
-  unfolding begun begin_refusal
-  begun-9 h t e = rw (← e, not-false b t, le-leb _ _ h)
-
-  pub begun_to : (first n : ℕ) → first ≡ oriented f raw → n ≡ period f → raw < f.capacity.0 → not b ≡ false → b ≡ rules_fit f
-      → To (record { place = record { 0 = first % n }; last = record { 0 = raw } }) ≡ begun f raw
-  unfolding begun begin_refusal started
-  begun_to first n first-is n-is h t e = rw (← e, not-false b t, lt-leb _ _ h, first-is, n-is)
-
-pub ruleset starts = (sound-by, begun-16, begun-9, begun_to)
-
--- ---- a reading, by the number n of its refusal
-module _ (f : InForce) (k : Shaft) (b : Bool) where
-  pub inside-by : not b ≡ false → b ≡ inside f k → Inside f k
-  inside-by t e = inside-true f k (sym e ∙ not-false b t)
-
-  pub inside-sound : not b ≡ false → b ≡ inside f k → Sound f
-  inside-sound t e = (inside-by t e).sound
-
-  pub inside-last : not b ≡ false → b ≡ inside f k → k.last.0 < f.capacity.0
-  inside-last t e = (inside-by t e).last
-
-  module _ (offset : ℤ) (fits : SFits w64 offset) where
-    pub reported-16 : not b ≡ true → b ≡ inside f k → Refused 16 ≡ reported_at f offset k
-    unfolding reported_at
-    reported-16 t e = rw (← e, not-true b t)
-
-    pub reported-at : (p : ℕ) (u : Units) → p ≡ position_at f (to_z w64 (of_z w64 offset)) k → u.0 ≡ unshifted f k → not b ≡ false → b ≡ inside f k
-        → At (record { 0 = p }) u ≡ reported_at f offset k
-    unfolding reported_at
-    reported-at p u p-is u-is t e = rw (← e, not-false b t, p-is, ← u-is, reads fits)
+  -- ---- the start
+  pub sound-by : when (not b) NoAxis ≡ None → Sound f
+  sound-by none = sound-of f (sym b-is ∙ when-none b _ none)
 
   module _ (raw : ℕ) where
-    pub approached-16 : not b ≡ true → b ≡ inside f k → NotApproached 16 ≡ approached f k raw
+    pub begun-16 : (r : Refusal) → when (not b) NoAxis ≡ Some r → Err r ≡ begun f raw
+    unfolding begun begin_refusal
+    begun-16 r refused = rw (← b-is, refused)
+
+    module _ (none : when (not b) NoAxis ≡ None) where
+      pub begun-9 : (r : Refusal) → when (leb f.capacity.0 raw) WrongTurn ≡ Some r → Err r ≡ begun f raw
+      unfolding begun begin_refusal
+      begun-9 r refused = rw (← b-is, none, refused)
+
+      pub begun_to : (first n : ℕ) → first ≡ oriented f raw → n ≡ period f → when (leb f.capacity.0 raw) WrongTurn ≡ None
+          → Ok (record { place = record { 0 = first % n }; last = record { 0 = raw } }) ≡ begun f raw
+      unfolding begun begin_refusal started
+      begun_to first n first-is n-is below = rw (← b-is, none, below, first-is, n-is)
+
+pub ruleset limits = (sound-so, inside-no, inside_on)
+
+pub ruleset starts = (unrefused, refused-by, sound-by, below, begun-16, begun-9, begun_to)
+
+-- ---- a reading and the position, by the test b of the limits
+module _ (f : InForce) (k : Shaft) (b : Bool) (b-is : b ≡ inside f k) where
+  pub inside-by : when (not b) NoAxis ≡ None → Inside f k
+  inside-by none = inside-true f k (sym b-is ∙ when-none b _ none)
+
+  pub inside-sound : when (not b) NoAxis ≡ None → Sound f
+  inside-sound none = (inside-by none).sound
+
+  pub inside-last : when (not b) NoAxis ≡ None → k.last.0 < f.capacity.0
+  inside-last none = (inside-by none).last
+
+  module _ (offset : ℤ) where
+    pub reported-16 : (r : Refusal) → when (not b) NoAxis ≡ Some r → Err r ≡ reported_at f offset k
+    unfolding reported_at
+    reported-16 r refused = rw (← b-is, refused)
+
+    pub reported-at : (p : ℕ) (u : Units) → SFits w64 offset → p ≡ position_at f (to_z w64 (of_z w64 offset)) k → u.0 ≡ unshifted f k → when (not b) NoAxis ≡ None
+        → Ok (record { position = record { 0 = p }; unshifted = u }) ≡ reported_at f offset k
+    unfolding reported_at
+    reported-at p u fits p-is u-is none = rw (← b-is, none, p-is, ← u-is, reads fits)
+
+  module _ (raw : ℕ) where
+    pub approached-16 : (r : Refusal) → when (not b) NoAxis ≡ Some r → Err r ≡ approached f k raw
     unfolding approached shaft_refusal
-    approached-16 t e = rw (← e, not-true b t)
+    approached-16 r refused = rw (← b-is, refused)
 
-    pub approached-on : (e : Approach) → e ≡ approach_from f k.last.0 raw → not b ≡ false → b ≡ inside f k → e ≡ approached f k raw
+    pub approached-on : (e : Result ℤ Refusal) → e ≡ approach_from f k.last.0 raw → when (not b) NoAxis ≡ None → e ≡ approached f k raw
     unfolding approached approach_from shaft_refusal
-    approached-on e e-is t b-is = e-is ∙ rw (← b-is, not-false b t)
+    approached-on e e-is none = e-is ∙ rw (← b-is, none)
 
-pub ruleset readings = (inside-sound, inside-last, inside-by, reported-16, reported-at, approached-16, approached-on)
+pub ruleset readings = (unrefused, refused-by, inside-sound, inside-last, inside-by, reported-16, reported-at, approached-16, approached-on)
 
--- ---- a move, by the approach e
-module _ (f : InForce) (k : Shaft) (raw : ℕ) (e : Approach) (e-is : e ≡ approached f k raw) where
-  module _ (d : ℤ) (h : e ≡ By d) where
-    approach-taken : (shaft_refusal f k raw ≡ 0) × (d ≡ move_of f k.last.0 raw)
-    unfolding approached
-    approach-taken = by-taken e (move_of f k.last.0 raw) d (shaft_refusal f k raw) h e-is
+-- ---- a move that is made
+module _ (f : InForce) (k : Shaft) (raw : ℕ) (d : ℤ) (e-is : Ok d ≡ approached f k raw) where
+  approach-taken : (shaft_refusal f k raw ≡ None) × (d ≡ move_of f k.last.0 raw)
+  unfolding approached
+  approach-taken = value-is (move_of f k.last.0 raw) (shaft_refusal f k raw) d e-is
 
-    refusals-none : (when (not (inside f k)) NoAxis ≡ 0) × (move_refusal f k.last.0 raw ≡ 0)
-    unfolding shaft_refusal
-    refusals-none = before-none (when (not (inside f k)) NoAxis) (move_refusal f k.last.0 raw) approach-taken.0
+  refusals-none : (when (not (inside f k)) NoAxis ≡ None) × (move_refusal f k.last.0 raw ≡ None)
+  unfolding shaft_refusal
+  refusals-none = before-none (when (not (inside f k)) NoAxis) (move_refusal f k.last.0 raw) approach-taken.0
 
-    pub moved_inside : Inside f k
-    moved_inside = inside-true f k (when-none (inside f k) 15 refusals-none.0)
+  pub moved_inside : Inside f k
+  moved_inside = inside-true f k (when-none (inside f k) _ refusals-none.0)
 
-    pub moved-lt : raw < f.capacity.0
-    moved-lt = raw-lt f k.last.0 raw refusals-none.1
+  pub moved-lt : raw < f.capacity.0
+  moved-lt = raw-lt f k.last.0 raw refusals-none.1
 
-    pub moved-by : to_z w64 (of_z w64 d) ≡ move_of f k.last.0 raw
-    moved-by = let i = approach-taken.1 in rw (i, reads (move-fits f k.last.0 raw moved_inside.sound))
+  pub moved-by : to_z w64 (of_z w64 d) ≡ move_of f k.last.0 raw
+  moved-by = let i = approach-taken.1 in rw (i, reads (move-fits f k.last.0 raw moved_inside.sound))
 
-    pub moved-to : (m : Shaft) → m ≡ moved_to f k raw → To m ≡ moved f k raw
-    unfolding moved
-    moved-to m m-is = rw (approach-taken.0, m-is)
-
-  pub moved-no : (n : ℕ) → e ≡ NotApproached n → NotMoved n ≡ moved f k raw
-  unfolding approached moved
-  moved-no n h =
-      let i = by-refused e (move_of f k.last.0 raw) (shaft_refusal f k raw) n h e-is in
-      rw (i.0, refused-is NotMoved (To (moved_to f k raw)) n i.1)
+  pub moved-to : (m : Shaft) → m ≡ moved_to f k raw → Ok m ≡ moved f k raw
+  unfolding moved
+  moved-to m m-is = rw (approach-taken.0, m-is)
 
   -- the same, with the move
-  module _ (d : ℤ) (h : e ≡ By d) where
-    pub moved-by-to : (m : Shaft) → m ≡ moved_to f k raw → ToBy m (to_z w64 (of_z w64 d)) ≡ moved_by f k raw
-    unfolding moved_by
-    moved-by-to m m-is = rw ((approach-taken d h).0, m-is, moved-by d h)
+  pub moved-by-to : (m : Shaft) → m ≡ moved_to f k raw → Ok (record { shaft = m; d = to_z w64 (of_z w64 d) }) ≡ moved_by f k raw
+  unfolding moved_by
+  moved-by-to m m-is = rw (approach-taken.0, m-is, moved-by)
 
-  pub moved-by-no : (n : ℕ) → e ≡ NotApproached n → NotMovedBy n ≡ moved_by f k raw
-  unfolding approached moved_by
-  moved-by-no n h =
-      let i = by-refused e (move_of f k.last.0 raw) (shaft_refusal f k raw) n h e-is in
-      rw (i.0, refused-is NotMovedBy (ToBy (moved_to f k raw) (move_of f k.last.0 raw)) n i.1)
-
-pub ruleset moves = (moved_inside, moved-lt, moved-by, moved-to, moved-no, moved-by-to, moved-by-no)
-
--- ---- from the answers back to the numbers
-pub to-taken : (e : Moved) (k m : Shaft) (n : ℕ) → e ≡ To m → e ≡ answer NotMoved (To k) n → (n ≡ 0) × (m ≡ k)
-to-taken e k m zero t e-is = let h : To m ≡ To k = sym t ∙ e-is in (refl, cc)
-to-taken e k m (suc n) t e-is = let h : To m ≡ NotMoved (suc n) = sym t ∙ e-is in let z : ◌≡◌ {A = ℕ} 0 1 = cc in absurd (omega arith)
-
-pub to-refused : (e : Moved) (k : Shaft) (n j : ℕ) → e ≡ NotMoved j → e ≡ answer NotMoved (To k) n → (n ≡ j) × (j ≡ 0 → ⊥)
-to-refused e k zero j t e-is = let h : NotMoved j ≡ To k = sym t ∙ e-is in let z : ◌≡◌ {A = ℕ} 0 1 = cc in absurd (omega arith)
-to-refused e k (suc n) j t e-is = let h : NotMoved j ≡ NotMoved (suc n) = sym t ∙ e-is in let z : suc n ≡ j = cc in (z, λ w. omega arith)
-
-pub by-to-taken : (e : MovedBy) (k m : Shaft) (z d : ℤ) (n : ℕ) → e ≡ ToBy m d → e ≡ answer NotMovedBy (ToBy k z) n → (n ≡ 0) × (m ≡ k) × (d ≡ z)
-by-to-taken e k m z d zero t e-is = let h : ToBy m d ≡ ToBy k z = sym t ∙ e-is in (refl, cc, cc)
-by-to-taken e k m z d (suc n) t e-is = let h : ToBy m d ≡ NotMovedBy (suc n) = sym t ∙ e-is in let w : ◌≡◌ {A = ℕ} 0 1 = cc in absurd (omega arith)
-
-pub by-to-refused : (e : MovedBy) (k : Shaft) (z : ℤ) (n j : ℕ) → e ≡ NotMovedBy j → e ≡ answer NotMovedBy (ToBy k z) n → (n ≡ j) × (j ≡ 0 → ⊥)
-by-to-refused e k z zero j t e-is = let h : NotMovedBy j ≡ ToBy k z = sym t ∙ e-is in let w : ◌≡◌ {A = ℕ} 0 1 = cc in absurd (omega arith)
-by-to-refused e k z (suc n) j t e-is = let h : NotMovedBy j ≡ NotMovedBy (suc n) = sym t ∙ e-is in let w : suc n ≡ j = cc in (w, λ v. omega arith)
+pub ruleset moves = (moved_inside, moved-lt, moved-by, moved-to, moved-by-to)
 
 module _ (f : InForce) (k : Shaft) (i : Inside f k) where
   pub read-refusal : (raw : ℕ) → shaft_refusal f k raw ≡ move_refusal f k.last.0 raw
   unfolding shaft_refusal
   read-refusal raw = rw (inside_is f k i)
 
-  pub reported-is : (offset : ℤ) → reported_at f offset k ≡ At (record { 0 = position_at f offset k }) (record { 0 = unshifted f k })
+  pub reported-is : (offset : ℤ) → reported_at f offset k ≡ Ok (positions_at f offset k)
   unfolding reported_at
   reported-is offset = rw (inside_is f k i)
 
-pub begun-by : (f : InForce) (raw : ℕ) → Sound f → begun f raw ≡ answer NotMoved (To (started f raw)) (when (leb f.capacity.0 raw) WrongTurn)
+pub begun-by : (f : InForce) (raw : ℕ) → Sound f → begun f raw ≡ answer Err (Ok (started f raw)) (when (leb f.capacity.0 raw) WrongTurn)
 unfolding begun begin_refusal
 begun-by f raw s = rw (fits-of f s)

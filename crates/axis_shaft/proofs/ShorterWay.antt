@@ -1,6 +1,6 @@
 -- The move of a reading that is taken is document 01's d (rule 3): −C/2 < d < C/2, and d is the difference of the oriented numbers up to a
 -- multiple of C. Ahead by less than half the range, or back by what is left of it.
-use Rattle.std.specs.Prelude.{◌≡◌, refl, Bool, true, false, ℕ, suc, ◌-◌, ◌*◌, ◌<◌, eqb, ltb, leb, ℤ, pos, negsuc, nat_abs, ◌-ℤ◌}
+use Rattle.std.specs.Prelude.{◌≡◌, refl, Bool, true, false, ℕ, suc, ◌-◌, ◌*◌, ◌<◌, eqb, ltb, leb, ℤ, pos, negsuc, nat_abs, ◌-ℤ◌, None}
 use Rattle.std.proofs.Common.{arith, ltb-true, ltb-false}
 use Rattle.std.proofs.lemmas.Bool.{eqb-false}
 use Rattle.integer.specs.{◌modulo◌}
@@ -20,14 +20,14 @@ by-half n c false t lt h =
     rw (shorter_back n c lt k)
     (omega (arith, diff_is (pos n) (pos c), abs_is z, apart z), modulo-is z 1 0 lt (omega (arith, diff_is (pos n) (pos c))))
 
-pub shorter-way : (f : InForce) (last raw : ℕ) → Sound f → move_refusal f last raw ≡ 0
+pub shorter-way : (f : InForce) (last raw : ℕ) → Sound f → move_refusal f last raw ≡ None
     → (2 * nat_abs (move_of f last raw) < f.capacity.0) × (move_of f last raw modulo f.capacity.0 ≡ difference f last raw)
 unfolding move_refusal move_of
 shorter-way f last raw s e =
     let n = difference f last raw in
     let c = f.capacity.0 in
     let z = (before-none (when (leb c raw) WrongTurn) (when (eqb (2 * n) c) HalfRange) e).1 in
-    by-half n c (ltb (2 * n) c) refl (difference-lt f last raw s) (eqb-false _ _ (when-not (eqb (2 * n) c) 9 z))
+    by-half n c (ltb (2 * n) c) refl (difference-lt f last raw s) (eqb-false _ _ (when-not (eqb (2 * n) c) _ z))
 
 -- no other number is: a move below half the range that equals the difference modulo C is this move
 only : (m : ℤ) (c : ℕ) → 2 * nat_abs m < c → shorter (m modulo c) c ≡ m

@@ -1,11 +1,8 @@
 -- The shaft: its place and its last reading (document 01, "The axis", rules 1 to 5; rows 9, 10 and 16).
-use Rattle.std.specs.Prelude.{Bool, cond, not, ◌&&◌, ℕ, ◌-◌, ◌*◌, ◌/◌, ◌%◌, ◌^◌, ◌<◌, eqb, ltb, leb, ℤ, pos, neg_ℤ, ◌+ℤ◌, ◌-ℤ◌}
+use Rattle.std.specs.Prelude.{Bool, cond, not, ◌&&◌, ℕ, ◌-◌, ◌*◌, ◌/◌, ◌%◌, ◌^◌, ◌<◌, eqb, ltb, leb, ℤ, pos, neg_ℤ, ◌+ℤ◌, ◌-ℤ◌, Option, Result, Ok, Err}
 use Rattle.integer.specs.{◌modulo◌}
-use Rattle.encoder.specs.{InForce, WrongTurn, HalfRange, NoAxis, when, ◌before◌, answer, rules_fit, Sound}
-use Rattle.axis_shaft.specs.{declared.Shaft.Shaft, declared.Moved.Moved, declared.Moved.TheVariants.To, declared.Moved.TheVariants.Refused as NotMoved}
-use Rattle.axis_shaft.specs.{declared.Approach.Approach, declared.Approach.TheVariants.By, declared.Approach.TheVariants.Refused as NotApproached}
-use Rattle.axis_shaft.specs.{declared.MovedBy.MovedBy, declared.MovedBy.TheVariants.To as ToBy, declared.MovedBy.TheVariants.Refused as NotMovedBy}
-use Rattle.axis_shaft.specs.{declared.Reported.Reported, declared.Reported.TheVariants.At, declared.Reported.TheVariants.Refused}
+use Rattle.encoder.specs.{InForce, Refusal, WrongTurn, HalfRange, NoAxis, when, ◌before◌, answer, rules_fit, Sound}
+use Rattle.axis_shaft.specs.{declared.Shaft.Shaft, declared.MovedBy.MovedBy, declared.Reported.Reported}
 
 -- R × L, steps × range. After so many steps place and position repeat: they are L turns, and M total ranges
 abbrev pub period : InForce → ℕ
@@ -46,16 +43,16 @@ unfoldable pub move_of : InForce → ℕ → ℕ → ℤ
 move_of f last raw = shorter (difference f last raw) f.capacity.0
 
 -- 10: a difference n of exactly C/2
-abbrev pub half_refusal : ℕ → ℕ → ℕ
+abbrev pub half_refusal : ℕ → ℕ → Option Refusal
 half_refusal n c = when (eqb (2 * n) c) HalfRange
 
 -- 9: raw number ≥ C; then 10
-unfoldable pub move_refusal : InForce → ℕ → ℕ → ℕ
+unfoldable pub move_refusal : InForce → ℕ → ℕ → Option Refusal
 move_refusal f last raw = when (leb f.capacity.0 raw) WrongTurn before half_refusal (difference f last raw) f.capacity.0
 
--- the move, or the number of the refusal
-unfoldable pub approach_from : InForce → ℕ → ℕ → Approach
-approach_from f last raw = answer NotApproached (By (move_of f last raw)) (move_refusal f last raw)
+-- the move, or the refusal
+unfoldable pub approach_from : InForce → ℕ → ℕ → Result ℤ Refusal
+approach_from f last raw = answer Err (Ok (move_of f last raw)) (move_refusal f last raw)
 
 -- 3, 4. the shaft after the reading
 unfoldable pub moved_to : InForce → Shaft → ℕ → Shaft
@@ -69,25 +66,29 @@ unshifted f k = k.place.0 * f.scale.0 / f.steps.0 % f.span.0
 unfoldable pub position_at : InForce → ℤ → Shaft → ℕ
 position_at f offset k = (pos (unshifted f k) +ℤ offset) modulo f.span.0
 
--- ---- the answers, by the number of the refusal: 16, 9, 10
-unfoldable pub begin_refusal : InForce → ℕ → ℕ
+-- both
+abbrev pub positions_at : InForce → ℤ → Shaft → Reported
+positions_at f offset k = record { position = record { 0 = position_at f offset k }; unshifted = record { 0 = unshifted f k } }
+
+-- ---- the answers, by the refusal: 16, 9, 10
+unfoldable pub begin_refusal : InForce → ℕ → Option Refusal
 begin_refusal f raw = when (not (rules_fit f)) NoAxis before when (leb f.capacity.0 raw) WrongTurn
 
-unfoldable pub begun : InForce → ℕ → Moved
-begun f raw = answer NotMoved (To (started f raw)) (begin_refusal f raw)
+unfoldable pub begun : InForce → ℕ → Result Shaft Refusal
+begun f raw = answer Err (Ok (started f raw)) (begin_refusal f raw)
 
-unfoldable pub shaft_refusal : InForce → Shaft → ℕ → ℕ
+unfoldable pub shaft_refusal : InForce → Shaft → ℕ → Option Refusal
 shaft_refusal f k raw = when (not (inside f k)) NoAxis before move_refusal f k.last.0 raw
 
-unfoldable pub approached : InForce → Shaft → ℕ → Approach
-approached f k raw = answer NotApproached (By (move_of f k.last.0 raw)) (shaft_refusal f k raw)
+unfoldable pub approached : InForce → Shaft → ℕ → Result ℤ Refusal
+approached f k raw = answer Err (Ok (move_of f k.last.0 raw)) (shaft_refusal f k raw)
 
-unfoldable pub moved : InForce → Shaft → ℕ → Moved
-moved f k raw = answer NotMoved (To (moved_to f k raw)) (shaft_refusal f k raw)
+unfoldable pub moved : InForce → Shaft → ℕ → Result Shaft Refusal
+moved f k raw = answer Err (Ok (moved_to f k raw)) (shaft_refusal f k raw)
 
 -- the same with the move, for the velocity in the cycle (request 1)
-unfoldable pub moved_by : InForce → Shaft → ℕ → MovedBy
-moved_by f k raw = answer NotMovedBy (ToBy (moved_to f k raw) (move_of f k.last.0 raw)) (shaft_refusal f k raw)
+unfoldable pub moved_by : InForce → Shaft → ℕ → Result MovedBy Refusal
+moved_by f k raw = answer Err (Ok (record { shaft = moved_to f k raw; d = move_of f k.last.0 raw })) (shaft_refusal f k raw)
 
-unfoldable pub reported_at : InForce → ℤ → Shaft → Reported
-reported_at f offset k = answer Refused (At (record { 0 = position_at f offset k }) (record { 0 = unshifted f k })) (when (not (inside f k)) NoAxis)
+unfoldable pub reported_at : InForce → ℤ → Shaft → Result Reported Refusal
+reported_at f offset k = answer Err (Ok (positions_at f offset k)) (when (not (inside f k)) NoAxis)

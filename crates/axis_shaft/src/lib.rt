@@ -7,14 +7,14 @@ mod raw;
 mod running;
 
 ghost use Rattle.std.specs.Prelude.{◌≡◌};
-ghost use Rattle.encoder.specs.{rules_fit};
+ghost use Rattle.encoder.specs.{checked, rules_fit};
 ghost use Rattle.axis_shaft.specs.{inside, begun, approached, moved, moved_by, reported_at, batch_refusal, batched, batched_list};
 
 use encoder::effect::InForce;
 use encoder::quantity::{Steps, Units};
-use encoder::refusal;
+use encoder::refusal::{Refusal, refuse};
 use place::period;
-use raw::{approach, oriented, refusal_among};
+use raw::{approach, check_moves, oriented};
 use ring::between;
 
 #[derive(Clone, Copy, PartialEq, Eq)]
@@ -25,29 +25,18 @@ pub struct Shaft {
     pub last: Steps,
 }
 
-#[derive(Clone, Copy, PartialEq, Eq)]
-pub enum Moved {
-    To(Shaft),
-    Refused(u8),
-}
-
-#[derive(Clone, Copy, PartialEq, Eq)]
-pub enum Approach {
-    By(i64),
-    Refused(u8),
-}
-
 // The shaft, and the move d that led there.
 #[derive(Clone, Copy, PartialEq, Eq)]
-pub enum MovedBy {
-    To { shaft: Shaft, d: i64 },
-    Refused(u8),
+pub struct MovedBy {
+    pub shaft: Shaft,
+    pub d: i64,
 }
 
+// The position, and the unshifted one.
 #[derive(Clone, Copy, PartialEq, Eq)]
-pub enum Reported {
-    At { position: Units, unshifted: Units },
-    Refused(u8),
+pub struct Reported {
+    pub position: Units,
+    pub unshifted: Units,
 }
 
 impl Shaft {
@@ -58,19 +47,15 @@ impl Shaft {
     };
 
     // The shaft at its first reading.
-    pub fn begin(rules: InForce, raw: u32) -> Moved
+    pub fn begin(rules: InForce, raw: u32) -> Result<Shaft, Refusal>
         ensures { result ≡ begun rules raw }
     {
-        if !sound(rules) {
-            return Moved::Refused(refusal::NO_AXIS);
-        }
         let last = Steps(raw as u64);
-        if rules.capacity.0 <= last.0 {
-            return Moved::Refused(refusal::TURN);
-        }
+        refuse(!sound(rules), Refusal::NoAxis)?;
+        refuse(rules.capacity.0 <= last.0, Refusal::WrongTurn)?;
         let first = oriented(rules, last);
         let place = Steps(first.0 % period(rules));
-        Moved::To(Shaft { place, last })
+        Ok(Shaft { place, last })
     }
 
     // The shaft is within its limits.
@@ -84,75 +69,70 @@ impl Shaft {
     }
 
     // The move of a new reading: the shorter way from the last one.
-    pub fn approach(self, rules: InForce, raw: u32) -> Approach
+    pub fn approach(self, rules: InForce, raw: u32) -> Result<i64, Refusal>
         ensures { result ≡ approached rules self raw }
     {
-        if !self.inside(rules) {
-            return Approach::Refused(refusal::NO_AXIS);
-        }
+        refuse(!self.inside(rules), Refusal::NoAxis)?;
         approach(rules, self.last, raw)
     }
 
     // The shaft after a new reading.
-    pub fn moved(self, rules: InForce, raw: u32) -> Moved
+    pub fn moved(self, rules: InForce, raw: u32) -> Result<Shaft, Refusal>
         ensures { result ≡ moved rules self raw }
     {
-        match self.approach(rules, raw) {
-            Approach::By(d) => Moved::To(self.advanced(rules, raw, d)),
-            Approach::Refused(n) => Moved::Refused(n),
-        }
+        let d = self.approach(rules, raw)?;
+        Ok(self.advanced(rules, raw, d))
     }
 
     // The same, with the move: a velocity needs it, and it is worked out once.
-    pub fn moved_by(self, rules: InForce, raw: u32) -> MovedBy
+    pub fn moved_by(self, rules: InForce, raw: u32) -> Result<MovedBy, Refusal>
         ensures { result ≡ moved_by rules self raw }
     {
-        match self.approach(rules, raw) {
-            Approach::By(d) => {
-                let shaft = self.advanced(rules, raw, d);
-                MovedBy::To { shaft, d }
-            }
-            Approach::Refused(n) => MovedBy::Refused(n),
-        }
+        let d = self.approach(rules, raw)?;
+        let shaft = self.advanced(rules, raw, d);
+        Ok(MovedBy { shaft, d })
     }
 
     // The position under an offset, and the unshifted one.
-    pub fn reported(self, rules: InForce, offset: i64) -> Reported
+    pub fn reported(self, rules: InForce, offset: i64) -> Result<Reported, Refusal>
         ensures { result ≡ reported_at rules offset self }
     {
-        if !self.inside(rules) {
-            return Reported::Refused(refusal::NO_AXIS);
-        }
-        Reported::At {
+        refuse(!self.inside(rules), Refusal::NoAxis)?;
+        Ok(Reported {
             position: Units(self.position(rules, offset)),
             unshifted: self.units(rules),
-        }
+        })
     }
 
     // New readings one after the other, with the position at each. All are taken, or none.
-    pub fn batch(self, rules: InForce, offset: i64, raws: &[u32], positions: &mut [u32]) -> Moved
+    pub fn batch(
+        self,
+        rules: InForce,
+        offset: i64,
+        raws: &[u32],
+        positions: &mut [u32],
+    ) -> Result<Shaft, Refusal>
         ensures { (result ≡ batched rules self offset raws.now positions.old)
             × (positions.new ≡ batched_list rules self offset raws.now positions.old) }
     {
-        let n = self.batch_refusal(rules, offset, raws, positions.len());
-        if n != 0 {
-            return Moved::Refused(n);
-        }
-        Moved::To(self.follow(rules, offset, raws, positions))
+        self.check_batch(rules, offset, raws, positions.len())?;
+        Ok(self.follow(rules, offset, raws, positions))
     }
 
-    // The refusal of a batch for a list of so many positions, 0 where all readings are taken.
-    fn batch_refusal(self, rules: InForce, offset: i64, raws: &[u32], room: usize) -> u8
-        ensures { result ≡ batch_refusal rules self offset raws.now room }
+    // Refuses a batch for a list of so many positions.
+    fn check_batch(
+        self,
+        rules: InForce,
+        offset: i64,
+        raws: &[u32],
+        room: usize,
+    ) -> Result<(), Refusal>
+        ensures { result ≡ checked (batch_refusal rules self offset raws.now room) }
     {
-        let span = rules.span.0;
-        if !(self.inside(rules) & between(offset, span)) {
-            return refusal::NO_AXIS;
-        }
-        if raws.len() != room {
-            return refusal::BUFFER;
-        }
-        refusal_among(rules, self.last, raws)
+        let within = self.inside(rules) & between(offset, rules.span.0);
+        refuse(!within, Refusal::NoAxis)?;
+        refuse(raws.len() != room, Refusal::WrongBuffer)?;
+        check_moves(rules, self.last, raws)
     }
 }
 

@@ -1,14 +1,12 @@
 // Raw numbers of the sensor. They begin again at 0 after C (document 01, "The axis", rules 1 and 3).
 ghost use Rattle.std.specs.Prelude.{◌≡◌, ◌≤◌, ◌<◌, ◌^◌, pos, ◌-ℤ◌};
 ghost use Rattle.integer.specs.{◌modulo◌};
-ghost use Rattle.encoder.specs.{Sound};
+ghost use Rattle.encoder.specs.{checked, Sound};
 ghost use Rattle.axis_shaft.specs.{oriented, difference, shorter, move_of, half_refusal, move_refusal, approach_from, gap, doubtful, refusal_in};
 
-use crate::Approach;
 use encoder::effect::InForce;
 use encoder::quantity::Steps;
-use encoder::refusal;
-use encoder::refusal::when;
+use encoder::refusal::{Refusal, refuse};
 
 // A raw number in the direction in force.
 pub(crate) fn oriented(rules: InForce, raw: Steps) -> Steps
@@ -58,29 +56,24 @@ fn shorter(n: Steps, capacity: Steps) -> i64
     n.0 as i64 - capacity.0 as i64
 }
 
-// The refusal of a difference of exactly C / 2, 0 of any other.
-fn half_range(n: Steps, capacity: Steps) -> u8
+// Refuses a difference of exactly C / 2.
+fn check_half(n: Steps, capacity: Steps) -> Result<(), Refusal>
     requires { n.0 < 2 ^ 31 }
-    ensures { result ≡ half_refusal n.0 capacity.0 }
+    ensures { result ≡ checked (half_refusal n.0 capacity.0) }
 {
-    when(2 * n.0 == capacity.0, refusal::HALF_RANGE)
+    refuse(2 * n.0 == capacity.0, Refusal::HalfRange)
 }
 
-// The move of a new reading, or its refusal.
-pub(crate) fn approach(rules: InForce, last: Steps, raw: u32) -> Approach
+// The move of a new reading.
+pub(crate) fn approach(rules: InForce, last: Steps, raw: u32) -> Result<i64, Refusal>
     requires { Sound rules × (last.0 < rules.capacity.0) }
     ensures { result ≡ approach_from rules last.0 raw }
 {
     let here = Steps(raw as u64);
-    if rules.capacity.0 <= here.0 {
-        return Approach::Refused(refusal::TURN);
-    }
+    refuse(rules.capacity.0 <= here.0, Refusal::WrongTurn)?;
     let n = difference(rules, last, here);
-    let half = half_range(n, rules.capacity);
-    if half != 0 {
-        return Approach::Refused(half);
-    }
-    Approach::By(shorter(n, rules.capacity))
+    check_half(n, rules.capacity)?;
+    Ok(shorter(n, rules.capacity))
 }
 
 // The move of an accepted reading.
@@ -92,16 +85,14 @@ pub(crate) fn move_to(rules: InForce, last: Steps, raw: u32) -> i64
     shorter(n, rules.capacity)
 }
 
-// The refusal of a new reading, 0 where it is taken.
-fn move_refusal(rules: InForce, last: Steps, raw: u32) -> u8
+// Refuses a new reading.
+fn check_move(rules: InForce, last: Steps, raw: u32) -> Result<(), Refusal>
     requires { Sound rules × (last.0 < rules.capacity.0) }
-    ensures { result ≡ move_refusal rules last.0 raw }
+    ensures { result ≡ checked (move_refusal rules last.0 raw) }
 {
     let here = Steps(raw as u64);
-    if rules.capacity.0 <= here.0 {
-        return refusal::TURN;
-    }
-    half_range(difference(rules, last, here), rules.capacity)
+    refuse(rules.capacity.0 <= here.0, Refusal::WrongTurn)?;
+    check_half(difference(rules, last, here), rules.capacity)
 }
 
 // How far apart two raw numbers are, whichever is larger.
@@ -119,42 +110,33 @@ fn doubtful(capacity: u32, before: u32, raws: &[u32]) -> bool
     let half = capacity / 2;
     let mut last = before;
     let mut found = false;
-    let mut i = 0;
-    while i < raws.len() {
-        let raw = raws[i];
-        found = found | (capacity <= raw) | (gap(last, raw) == half);
-        last = raw;
-        i += 1;
+    for raw in raws {
+        found = found | (capacity <= *raw) | (gap(last, *raw) == half);
+        last = *raw;
     }
     found
 }
 
-// The first refusal among new readings, 0 where all are taken.
-pub(crate) fn refusal_among(rules: InForce, before: Steps, raws: &[u32]) -> u8
+// Refuses new readings, one after the other: the first that is wrong.
+pub(crate) fn check_moves(rules: InForce, before: Steps, raws: &[u32]) -> Result<(), Refusal>
     requires { Sound rules × (before.0 < rules.capacity.0) }
-    ensures { result ≡ refusal_in rules before.0 raws.now }
+    ensures { result ≡ checked (refusal_in rules before.0 raws.now) }
 {
-    if !doubtful(rules.capacity.0 as u32, before.0 as u32, raws) {
-        return 0;
+    if doubtful(rules.capacity.0 as u32, before.0 as u32, raws) {
+        return check_each(rules, before, raws);
     }
-    first_refusal(rules, before, raws)
+    Ok(())
 }
 
 // The same, reading after reading.
-fn first_refusal(rules: InForce, before: Steps, raws: &[u32]) -> u8
+fn check_each(rules: InForce, before: Steps, raws: &[u32]) -> Result<(), Refusal>
     requires { Sound rules × (before.0 < rules.capacity.0) }
-    ensures { result ≡ refusal_in rules before.0 raws.now }
+    ensures { result ≡ checked (refusal_in rules before.0 raws.now) }
 {
     let mut last = before;
-    let mut i = 0;
-    while i < raws.len() {
-        let raw = raws[i];
-        let n = move_refusal(rules, last, raw);
-        if n != 0 {
-            return n;
-        }
-        last = Steps(raw as u64);
-        i += 1;
+    for raw in raws {
+        check_move(rules, last, *raw)?;
+        last = Steps(*raw as u64);
     }
-    0
+    Ok(())
 }

@@ -1,6 +1,6 @@
 // Units and rest as running values (document 02, request 4): each entry of a batch works them out from its own move and the two before it. The
 // place has no part in it.
-ghost use Rattle.std.specs.Prelude.{◌≡◌, ◌≤◌, ◌<◌, ◌^◌, length, pos, nat_abs, ◌+ℤ◌};
+ghost use Rattle.std.specs.Prelude.{◌≡◌, ◌≤◌, ◌<◌, ◌^◌, None, length, pos, nat_abs, ◌+ℤ◌};
 ghost use Rattle.integer.specs.{◌modulo◌};
 ghost use Rattle.encoder.specs.{Sound};
 ghost use Rattle.axis_shaft.specs.{Inside, refusal_in, after, positions_in};
@@ -94,7 +94,7 @@ impl Shaft {
         raws: &[u32],
         positions: &mut [u32],
     ) -> Shaft
-        requires { Inside rules self × (nat_abs offset < rules.span.0) × (length raws.now ≡ length positions.old) × (refusal_in rules self.last.0 raws.now ≡ 0) }
+        requires { Inside rules self × (nat_abs offset < rules.span.0) × (length raws.now ≡ length positions.old) × (refusal_in rules self.last.0 raws.now ≡ None) }
         ensures { (result ≡ after rules self raws.now) × (positions.new ≡ positions_in rules offset self raws.now) }
     {
         let lead = lead_of(rules);

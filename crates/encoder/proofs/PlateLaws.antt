@@ -1,11 +1,11 @@
 -- What holds of a nameplate that is not refused: its bounds, one by one, the due length of a lent buffer, and that its capacity fits.
 pub use borrow.Author.Rules.{rules}
-use Rattle.std.specs.Prelude.{◌≡◌, refl, Bool, true, false, ◌&&◌, not, ℕ, ◌*◌, ◌^◌, ◌≤◌, eqb, Option, None}
+use Rattle.std.specs.Prelude.{◌≡◌, refl, Bool, true, false, ◌&&◌, not, ℕ, ◌*◌, ◌^◌, ◌≤◌, eqb, Option, None, Some}
 use Rattle.std.proofs.Common.{arith, leb-true, eqb-true}
 use Rattle.std.proofs.lemmas.Bool.{false≢true}
 use Rattle.std.specs.Int.{w64, w32}
 use mir.Val.{Fits}
-use Rattle.encoder.specs.{Nameplate, Refusal, WrongBuffer, when, plate_refusal, buffer_refusal, capacity_of}
+use Rattle.encoder.specs.{Nameplate, Refusal, WrongBuffer, when, ◌before◌, plate_refusal, buffer_refusal, capacity_of}
 use Rattle.encoder.proofs.RefusalLaws.{before-none, when-none}
 use native.Mathlib.Nat as N
 
@@ -48,6 +48,16 @@ buffer-passed n size due later e =
     let plate = before-none (plate_refusal n) _ e in
     let length = before-none (when (not (eqb size due)) WrongBuffer) later plate.1 in
     (plate.0, eqb-true _ _ (when-none _ _ length.0), length.1)
+
+-- and one that it has not passed refuses, whatever comes later
+pub buffer-refused : (n : Nameplate) (size due : ℕ) (r : Refusal) (later : Option Refusal) → buffer_refusal n size due None ≡ Some r
+    → buffer_refusal n size due later ≡ Some r
+buffer-refused n size due r later e = go (plate_refusal n) (when (not (eqb size due)) WrongBuffer) e
+  where
+    go : (a b : Option Refusal) → (a before b before None) ≡ Some r → (a before b before later) ≡ Some r
+    go (Some s) b h = h
+    go None (Some s) h = h
+    go None None h = cc
 
 module _ (n : Nameplate) (fits : plate_refusal n ≡ None) where
   pub capacity-most : capacity_of n ≤ 2 ^ 31

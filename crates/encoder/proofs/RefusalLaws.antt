@@ -5,20 +5,31 @@ use Rattle.std.proofs.lemmas.Bool.{not-false}
 use Rattle.encoder.specs.{Refusal, when, ◌before◌, answer}
 
 -- ---- from what a call has answered back to its refusal n
-module _ {A : Type 0} (taken : A) (n : Option Refusal) (x : Result A Refusal) where
-  pub passed : (y : A) → x ≡ Ok y → x ≡ answer Err (Ok taken) n → (n ≡ None) × (y ≡ taken)
-  passed y is x-is = go n (sym is ∙ x-is)
+module _ {A : Type 0} (taken : A) (n : Option Refusal) where
+  pub value-is : (y : A) → Ok y ≡ answer Err (Ok taken) n → (n ≡ None) × (y ≡ taken)
+  value-is y = go n
     where
       go : (k : Option Refusal) → Ok y ≡ answer Err (Ok taken) k → (k ≡ None) × (y ≡ taken)
       go None e = (refl, cc)
       go (Some r) e = cc
 
-  pub failed : (r : Refusal) → x ≡ Err r → x ≡ answer Err (Ok taken) n → n ≡ Some r
-  failed r is x-is = go n (sym is ∙ x-is)
+  pub unrefused : (y : A) → Ok y ≡ answer Err (Ok taken) n → n ≡ None
+  unrefused y e = (value-is y e).0
+
+  pub refused-by : (r : Refusal) → Err r ≡ answer Err (Ok taken) n → n ≡ Some r
+  refused-by r = go n
     where
       go : (k : Option Refusal) → Err r ≡ answer Err (Ok taken) k → k ≡ Some r
       go None e = cc
       go (Some s) e = cc
+
+  -- the same of an answer x that is told in two steps
+  module _ (x : Result A Refusal) where
+    pub passed : (y : A) → x ≡ Ok y → x ≡ answer Err (Ok taken) n → (n ≡ None) × (y ≡ taken)
+    passed y is x-is = value-is y (sym is ∙ x-is)
+
+    pub failed : (r : Refusal) → x ≡ Err r → x ≡ answer Err (Ok taken) n → n ≡ Some r
+    failed r is x-is = refused-by r (sym is ∙ x-is)
 
 -- ---- what a call answers or leaves in a lent buffer, x, by its refusal n
 module _ {A : Type 0} (refused : Refusal → A) (taken x : A) (n : Option Refusal) where
@@ -36,9 +47,9 @@ module _ {A : Type 0} (refused : Refusal → A) (taken x : A) (n : Option Refusa
     pub first-yes : n ≡ None → x ≡ answer refused taken later → x ≡ answer refused taken (n before later)
     first-yes none x-is = x-is ∙ rw none
 
-pub ruleset exits = (passed, failed, answer-no, answer-yes)
+pub ruleset exits = (unrefused, refused-by, answer-no, answer-yes)
 
-pub ruleset stepwise = (passed, failed, first-no, first-yes)
+pub ruleset stepwise = (unrefused, refused-by, first-no, first-yes)
 
 -- ---- the first of two refusals
 pub before-none : (n m : Option Refusal) → (n before m) ≡ None → (n ≡ None) × (m ≡ None)

@@ -1,38 +1,35 @@
 -- Parameters that the writer takes, written into any buffer of their class's length, read back as the same parameters on the same
 -- nameplate: one theorem for both classes. The buffer's length is known, so that its octets compute, and a number stands in its octets.
-use Rattle.std.specs.Prelude.{◌≡◌, refl, List, ℕ, zero, suc, ◌^◌, ◌<◌, length}
+use Rattle.std.specs.Prelude.{◌≡◌, refl, List, ℕ, ◌^◌, ◌<◌, length, None, Ok}
 use Rattle.std.proofs.Common.{ap, ◌∙◌, arith, eq-eqb}
 use Rattle.integer.specs.{octets}
 use Rattle.integer.proofs.{known, big_endian-octets}
-use Rattle.encoder.specs.{Units, Nameplate, Parameters, Class2, Class4, answer, plate_refusal, parameters_refusal}
-use Rattle.parameters_reader.specs.{Taken, ident_in, telegram_parameters, telegram_refusal, read_telegram, block_parameters, block_refusal, read_block}
-use Rattle.parameters_writer.specs.{Done, Refused, length_of, telegram_of, block_of, octets_of, write_refusal, written, written_octets, read_as, Held}
-use Rattle.parameters_writer.proofs.WriteLaws.{passed}
+use Rattle.encoder.specs.{Units, Nameplate, Parameters, Class2, Class4, plate_refusal, parameters_refusal}
+use Rattle.parameters_reader.specs.{ident_in, telegram_parameters, telegram_refusal, read_telegram, block_parameters, block_refusal, read_block}
+use Rattle.parameters_writer.specs.{length_of, telegram_of, block_of, octets_of, write_refusal, written, written_octets, read_as, Held}
+use Rattle.encoder.proofs.{passed}
+use Rattle.parameters_writer.proofs.WriteLaws.{write-passed}
 
 -- ---- what an accepted write tells
-done-is : (k : ℕ) → answer Refused Done k ≡ Done → k ≡ 0
-done-is zero e = refl
-done-is (suc k) e = let z : ◌≡◌ {A = ℕ} 0 1 = cc in absurd (omega arith)
+module _ (n : Nameplate) (p : Parameters) (b : List ℕ) (taken : written n p b ≡ Ok tt) where
+  none-refused : write_refusal n p (length b) ≡ None
+  none-refused = (passed tt (write_refusal n p (length b)) (written n p b) tt taken refl).0
 
-module _ (n : Nameplate) (p : Parameters) (b : List ℕ) (taken : written n p b ≡ Done) where
-  number-none : write_refusal n p (length b) ≡ 0
-  number-none = done-is (write_refusal n p (length b)) taken
-
-  tests : (plate_refusal n ≡ 0) × (length b ≡ length_of p) × (parameters_refusal n p ≡ 0)
-  tests = passed n p (length b) number-none
+  tests : (plate_refusal n ≡ None) × (length b ≡ length_of p) × (parameters_refusal n p ≡ None)
+  tests = write-passed n p (length b) none-refused
 
   filled : written_octets n p b ≡ octets_of n.ident p b
-  filled = rw number-none
+  filled = rw none-refused
 
 -- ---- what the readers take
-module _ (n : Nameplate) (p : Parameters) (t : List ℕ) (fits : plate_refusal n ≡ 0) (none : parameters_refusal n p ≡ 0) where
-  telegram-taken : length t ≡ 17 → ident_in t ≡ n.ident → telegram_parameters t ≡ p → read_telegram n t ≡ Taken p
+module _ (n : Nameplate) (p : Parameters) (t : List ℕ) (fits : plate_refusal n ≡ None) (none : parameters_refusal n p ≡ None) where
+  telegram-taken : length t ≡ 17 → ident_in t ≡ n.ident → telegram_parameters t ≡ p → read_telegram n t ≡ Ok p
   unfolding read_telegram telegram_refusal
-  telegram-taken long ident is = rw (fits, eq-eqb _ _ long, eq-eqb _ _ ident, ap (parameters_refusal n) is ∙ none) (ap Taken is)
+  telegram-taken long ident is = rw (fits, eq-eqb _ _ long, eq-eqb _ _ ident, ap (parameters_refusal n) is ∙ none) (ap Ok is)
 
-  block-taken : length t ≡ 11 → block_parameters t ≡ p → read_block n t ≡ Taken p
+  block-taken : length t ≡ 11 → block_parameters t ≡ p → read_block n t ≡ Ok p
   unfolding read_block block_refusal
-  block-taken long is = rw (fits, eq-eqb _ _ long, ap (parameters_refusal n) is ∙ none) (ap Taken is)
+  block-taken long is = rw (fits, eq-eqb _ _ long, ap (parameters_refusal n) is ∙ none) (ap Ok is)
 
 -- ---- what the octets hold
 module _ (t : List ℕ) (ident o : ℕ) (u r : Units) (hu : u.0 < 2 ^ 32) (hr : r.0 < 2 ^ 32) where
@@ -58,7 +55,7 @@ module _ (t : List ℕ) (ident o : ℕ) (u r : Units) (hu : u.0 < 2 ^ 32) (hr : 
   block-long l s = refl
 
 -- ---- the round trip
-pub round_trip : (n : Nameplate) (p : Parameters) (b : List ℕ) → Held n p → written n p b ≡ Done → read_as p n (written_octets n p b) ≡ Taken p
+pub round_trip : (n : Nameplate) (p : Parameters) (b : List ℕ) → Held n p → written n p b ≡ Ok tt → read_as p n (written_octets n p b) ≡ Ok p
 unfolding octets_of
 round_trip n (Class2 o u r) b h taken =
     let w = tests n (Class2 o u r) b taken in

@@ -1,12 +1,12 @@
 -- What the writer leaves in the buffer, and what it has tested before.
 pub use borrow.Author.Rules.{rules}
-use Rattle.std.specs.Prelude.{◌≡◌, not, List, ℕ, eqb, length, take, drop, set}
-use Rattle.std.proofs.Common.{sym, ◌∙◌}
+use Rattle.std.specs.Prelude.{◌≡◌, List, ℕ, length, take, drop, set, None, Some}
+use Rattle.std.proofs.Common.{eq-eqb}
 use borrow.Rule.Slice.PartMut.{put_mid}
 use Rattle.integer.specs.{octets}
 use Rattle.integer.proofs.{known}
-use Rattle.encoder.specs.{Units, Nameplate, Parameters, WrongBuffer, when, ◌before◌, plate_refusal, buffer_refusal, parameters_refusal, refusal_on}
-use Rattle.encoder.proofs.{before-again, buffer-passed}
+use Rattle.encoder.specs.{Units, Nameplate, Parameters, Refusal, plate_refusal, buffer_refusal, parameters_refusal, refusal_on}
+use Rattle.encoder.proofs.{buffer-passed, buffer-refused}
 use Rattle.parameters_writer.specs.{length_of, telegram_of, block_of, write_refusal}
 
 -- three parts and a store fill a telegram
@@ -33,16 +33,23 @@ block-filled t v w operating units range life speed h q r =
     let c : w ≡ octets 4 range.0 = rw (known 11 t h, b) at r in
     rw (known 11 t h, b, c)
 
--- the parameters' own 7 never comes: the nameplate's comes first
-pub write-number : (n : Nameplate) (p : Parameters) (size : ℕ) → buffer_refusal n size (length_of p) (refusal_on n p) ≡ write_refusal n p size
-unfolding write_refusal refusal_on
-write-number n p size = before-again (plate_refusal n) (parameters_refusal n p) (λ (m : ℕ). when (not (eqb size (length_of p))) WrongBuffer before m)
-
--- an accepted write has passed the tests of nameplate, length and parameters
+-- ---- the refusals
 module _ (n : Nameplate) (p : Parameters) (size : ℕ) where
-  pub passed : write_refusal n p size ≡ 0 → (plate_refusal n ≡ 0) × (size ≡ length_of p) × (parameters_refusal n p ≡ 0)
+  -- the parameters' own 7 never comes: the nameplate's comes first
+  pub write-refused : (r : Refusal) → buffer_refusal n size (length_of p) None ≡ Some r → write_refusal n p size ≡ Some r
   unfolding write_refusal
-  passed e = buffer-passed n size (length_of p) (parameters_refusal n p) e
+  write-refused r e = buffer-refused n size (length_of p) r (parameters_refusal n p) e
 
-  pub right-length : (k : ℕ) → k ≡ 0 → k ≡ write_refusal n p size → size ≡ length_of p
-  right-length k none k-is = (passed (sym k-is ∙ none)).1
+  pub write-later : buffer_refusal n size (length_of p) None ≡ None → write_refusal n p size ≡ refusal_on n p
+  unfolding write_refusal refusal_on
+  write-later e =
+      let passed = buffer-passed n size (length_of p) None e in
+      rw (passed.0, eq-eqb _ _ passed.1)
+
+  -- an accepted write has passed the tests of nameplate, length and parameters
+  pub write-passed : write_refusal n p size ≡ None → (plate_refusal n ≡ None) × (size ≡ length_of p) × (parameters_refusal n p ≡ None)
+  unfolding write_refusal
+  write-passed e = buffer-passed n size (length_of p) (parameters_refusal n p) e
+
+  pub right-length : write_refusal n p size ≡ None → size ≡ length_of p
+  right-length e = (write-passed e).1

@@ -1,10 +1,10 @@
 -- The round trip, for both classes (demand 2: parameters written as octets read back as the same parameters).
-use Rattle.std.specs.Prelude.{ℕ, ◌^◌, ◌<◌, List}
-use Rattle.encoder.specs.{Nameplate, Parameters, Class2, Class4, fields_of}
-use Rattle.parameters_reader.specs.{Received, read_telegram, read_block}
+use Rattle.std.specs.Prelude.{ℕ, ◌^◌, ◌<◌, List, Result}
+use Rattle.encoder.specs.{Nameplate, Parameters, Class2, Class4, Refusal, fields_of}
+use Rattle.parameters_reader.specs.{read_telegram, read_block}
 
 -- the reader of the parameters' class
-abbrev pub read_as : Parameters → Nameplate → List ℕ → Received
+abbrev pub read_as : Parameters → Nameplate → List ℕ → Result Parameters Refusal
 read_as (Class2 operating units range) n t = read_telegram n t
 read_as (Class4 operating units range life speed) n t = read_block n t
 

@@ -1,8 +1,7 @@
 -- The writer of both classes (document 01, "Class 2 telegram", "Class 4 block"; row 13 of "When a call is turned away").
-use Rattle.std.specs.Prelude.{ℕ, List, [], ◌∷◌, ◌++◌, length}
+use Rattle.std.specs.Prelude.{ℕ, List, [], ◌∷◌, ◌++◌, length, Option, Result}
 use Rattle.integer.specs.{part, octets}
-use Rattle.encoder.specs.{Nameplate, Units, Parameters, Class2, Class4, answer, buffer_refusal, parameters_refusal}
-use Rattle.parameters_writer.specs.{declared.Written.Written, declared.Written.TheVariants.Done, declared.Written.TheVariants.Refused}
+use Rattle.encoder.specs.{Nameplate, Units, Parameters, Class2, Class4, Refusal, answer, checked, buffer_refusal, parameters_refusal}
 
 -- the length of the parameters' class
 abbrev pub length_of : Parameters → ℕ
@@ -23,12 +22,12 @@ octets_of ident (Class2 operating units range) b = telegram_of ident operating u
 octets_of ident (Class4 operating units range life speed) b = block_of operating units range life speed
 
 -- the refusal for a buffer of so many octets, in the order 7, 13, 3, 4, 5, 6, 17
-unfoldable pub write_refusal : Nameplate → Parameters → ℕ → ℕ
+unfoldable pub write_refusal : Nameplate → Parameters → ℕ → Option Refusal
 write_refusal n p size = buffer_refusal n size (length_of p) (parameters_refusal n p)
 
 -- the answer, and the buffer as the writer leaves it: filled, or as it was
-abbrev pub written : Nameplate → Parameters → List ℕ → Written
-written n p b = answer Refused Done (write_refusal n p (length b))
+abbrev pub written : Nameplate → Parameters → List ℕ → Result (Unit {0}) Refusal
+written n p b = checked (write_refusal n p (length b))
 
 abbrev pub written_octets : Nameplate → Parameters → List ℕ → List ℕ
 written_octets n p b = answer (λ _. b) (octets_of n.ident p b) (write_refusal n p (length b))

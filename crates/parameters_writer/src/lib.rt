@@ -2,37 +2,35 @@
 #![tactic(auto)]
 
 ghost use Rattle.std.specs.Prelude.{◌≡◌, length};
+ghost use Rattle.encoder.specs.{checked};
 ghost use Rattle.parameters_writer.specs.{length_of, telegram_of, block_of, octets_of, write_refusal, written, written_octets};
 
 use encoder::nameplate::Nameplate;
 use encoder::parameters::Parameters;
 use encoder::quantity::Units;
+use encoder::refusal::Refusal;
 use octets::put_number;
 
-#[derive(Clone, Copy, PartialEq, Eq)]
-pub enum Written {
-    Done,
-    Refused(u8),
-}
-
 // Fills a buffer of the length of the parameters' class; a refused call leaves it as it was.
-pub fn write_parameters(plate: Nameplate, parameters: Parameters, buffer: &mut [u8]) -> Written
+pub fn write_parameters(
+    plate: Nameplate,
+    parameters: Parameters,
+    buffer: &mut [u8],
+) -> Result<(), Refusal>
     ensures { (result ≡ written plate parameters buffer.old)
         × (buffer.new ≡ written_octets plate parameters buffer.old) }
 {
-    let n = refusal_of(plate, parameters, buffer.len());
-    if n != 0 {
-        return Written::Refused(n);
-    }
+    check(plate, parameters, buffer.len())?;
     fill(plate.ident, parameters, buffer);
-    Written::Done
+    Ok(())
 }
 
-// The refusal of parameters for a buffer of so many octets, 0 where they are written.
-fn refusal_of(plate: Nameplate, parameters: Parameters, size: usize) -> u8
-    ensures { result ≡ write_refusal plate parameters size }
+// Refuses parameters for a buffer of so many octets.
+fn check(plate: Nameplate, parameters: Parameters, size: usize) -> Result<(), Refusal>
+    ensures { result ≡ checked (write_refusal plate parameters size) }
 {
-    plate.buffer_refusal(size, len(parameters), parameters.refusal(plate))
+    plate.check_buffer(size, len(parameters))?;
+    parameters.check(plate)
 }
 
 // How many octets the parameters take.

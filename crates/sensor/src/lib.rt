@@ -2,35 +2,26 @@
 #![tactic(auto)]
 
 ghost use Rattle.std.specs.Prelude.{◌≡◌};
+ghost use Rattle.encoder.specs.{checked};
 ghost use Rattle.sensor.specs.{step_refusal, numbered};
 
 use encoder::nameplate::Nameplate;
 use encoder::quantity::{Steps, Turns};
-use encoder::refusal;
-use encoder::refusal::{first, when};
-
-#[derive(Clone, Copy, PartialEq, Eq)]
-pub enum Reading {
-    Number(u32),
-    Refused(u8),
-}
+use encoder::refusal::{Refusal, refuse};
 
 // The raw number of a step within the turn and the turns counted.
-pub fn raw_number(plate: Nameplate, step: Steps, turn: Turns) -> Reading
+pub fn raw_number(plate: Nameplate, step: Steps, turn: Turns) -> Result<u32, Refusal>
     ensures { result ≡ numbered plate step.0 turn.0 }
 {
-    let n = refusal_of(plate, step, turn);
-    if n != 0 {
-        return Reading::Refused(n);
-    }
-    Reading::Number((turn.0 as u64 * plate.steps.0 + step.0) as u32)
+    check(plate, step, turn)?;
+    Ok((turn.0 as u64 * plate.steps.0 + step.0) as u32)
 }
 
-// The refusal of a step and a turn, 0 where they have a raw number.
-fn refusal_of(plate: Nameplate, step: Steps, turn: Turns) -> u8
-    ensures { result ≡ step_refusal plate step.0 turn.0 }
+// Refuses a step and a turn that have no raw number.
+fn check(plate: Nameplate, step: Steps, turn: Turns) -> Result<(), Refusal>
+    ensures { result ≡ checked (step_refusal plate step.0 turn.0) }
 {
-    let step_wrong = when(plate.steps.0 <= step.0, refusal::STEP);
-    let turn_wrong = when(plate.turns.0 <= turn.0, refusal::TURN);
-    first(plate.refusal(), first(step_wrong, turn_wrong))
+    plate.check()?;
+    refuse(plate.steps.0 <= step.0, Refusal::WrongStep)?;
+    refuse(plate.turns.0 <= turn.0, Refusal::WrongTurn)
 }

@@ -4,21 +4,18 @@ use Rattle.sensor.specs.{numbered}
 use Rattle.sensor.proofs.{ReadingLaws.fitting}
 use Rattle.sensor.proofs.raw_number.Goals as goal
 
-pub returns-then-n-ne0 : goal.returns-then-n-ne0
+pub returns-in_err-check : goal.returns-in_err-check
 unfolding numbered
-returns-then-n-ne0 c = search (rules, exits)
+returns-in_err-check c = search rules
 
 pub overflow_mul-result : goal.overflow_mul-result
-unfolding numbered
-overflow_mul-result c = search (rules, fitting)
+overflow_mul-result c = search (rules, exits, fitting)
 
 pub overflow_add-result : goal.overflow_add-result
-unfolding numbered
-overflow_add-result c = search (rules, fitting)
+overflow_add-result c = search (rules, exits, fitting)
 
 pub overflow_cast-result-2 : goal.overflow_cast-result-2
-unfolding numbered
-overflow_cast-result-2 c = search (rules, fitting)
+overflow_cast-result-2 c = search (rules, exits, fitting)
 
 pub returns : goal.returns
 unfolding numbered

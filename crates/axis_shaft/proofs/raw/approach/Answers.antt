@@ -1,12 +1,15 @@
 use Rattle.std.proofs.Common.{rules}
+use Rattle.encoder.proofs.{exits, stepwise}
+use Rattle.axis_shaft.specs.{approach_from, move_refusal}
 use Rattle.axis_shaft.proofs.{SensorLaws.approaches}
 use Rattle.axis_shaft.proofs.raw.approach.Goals as goal
 
-pub returns-then-rules-here : goal.returns-then-rules-here
-returns-then-rules-here c = search (rules, approaches)
+pub returns-in_err-refuse : goal.returns-in_err-refuse
+unfolding approach_from move_refusal
+returns-in_err-refuse c = search (rules, stepwise)
 
-pub returns-then-half-ne0 : goal.returns-then-half-ne0
-returns-then-half-ne0 c = search (rules, approaches)
+pub returns-in_err-check_half : goal.returns-in_err-check_half
+returns-in_err-check_half c = search (rules, exits, approaches)
 
 pub returns : goal.returns
-returns c = search (rules, approaches)
+returns c = search (rules, exits, approaches)
