@@ -1,8 +1,8 @@
 -- The axis record, its limits, and the position that it stands at (document 01, "The axis", rules 4 and 5; row 16).
-use Rattle.std.specs.Prelude.{◌≡◌, Bool, true, not, ◌&&◌, ℕ, ◌<◌, eqb, nat_abs}
+use Rattle.std.specs.Prelude.{◌≡◌, Bool, true, not, ◌&&◌, ℕ, ◌<◌, nat_abs, Option, is_none, Result, Ok, Err}
 use Rattle.ring.specs.{in_range}
-use Rattle.encoder.specs.{InForce, Effect, Taken, Refused as NotInForce, NoAxis, when, answer, fields_of, refusal_on, rules_of}
-use Rattle.axis_shaft.specs.{Reported, At, declared.Reported.TheVariants.Refused, inside, Inside, unshifted, position_at}
+use Rattle.encoder.specs.{InForce, Refusal, NoAxis, when, answer, fields_of, refusal_on, rules_of}
+use Rattle.axis_shaft.specs.{Reported, inside, Inside, unshifted, position_at}
 use Rattle.axis.specs.declared.Axis.{Axis}
 
 -- what is in force on an axis
@@ -16,15 +16,15 @@ keeps f a =
     inside f a.shaft && in_range a.offset f.span.0 && in_range a.preset f.span.0 && in_range a.stored f.span.0
 
 unfoldable pub acceptable : Axis → Bool
-acceptable a = eqb (refusal_on a.nameplate a.parameters) 0 && keeps (rules_on a) a
+acceptable a = is_none (refusal_on a.nameplate a.parameters) && keeps (rules_on a) a
 
 -- 16: a record outside its limits
-unfoldable pub axis_refusal : Axis → ℕ
+unfoldable pub axis_refusal : Axis → Option Refusal
 axis_refusal a = when (not (acceptable a)) NoAxis
 
--- the answer: what is in force, or the number of the refusal
-unfoldable pub in_force_on : Axis → Effect
-in_force_on a = answer NotInForce (Taken (rules_on a)) (axis_refusal a)
+-- the answer: what is in force, or the refusal
+unfoldable pub in_force_on : Axis → Result InForce Refusal
+in_force_on a = answer Err (Ok (rules_on a)) (axis_refusal a)
 
 -- an acceptable axis and what is in force on it
 pub record Ready (a : Axis) (f : InForce) : Type 0 where
@@ -40,6 +40,9 @@ unshifted_of a = unshifted (rules_on a) a.shaft
 unfoldable pub position_of : Axis → ℕ
 position_of a = position_at (rules_on a) a.offset a.shaft
 
--- the answer: both, or the number of the refusal
-unfoldable pub reported : Axis → Reported
-reported a = answer Refused (At (record { 0 = position_of a }) (record { 0 = unshifted_of a })) (axis_refusal a)
+abbrev pub positions_of : Axis → Reported
+positions_of a = record { position = record { 0 = position_of a }; unshifted = record { 0 = unshifted_of a } }
+
+-- the answer: both, or the refusal
+unfoldable pub reported : Axis → Result Reported Refusal
+reported a = answer Err (Ok (positions_of a)) (axis_refusal a)

@@ -1,12 +1,12 @@
 -- Presets, and the held preset value (document 01, "The axis", rule 6; "One cycle" on the held preset value).
-use Rattle.std.specs.Prelude.{Bool, cond, ℕ, ℤ, pos, ◌+ℤ◌, ◌-ℤ◌}
+use Rattle.std.specs.Prelude.{Bool, cond, ℕ, ℤ, pos, ◌+ℤ◌, ◌-ℤ◌, Option}
 use Rattle.integer.specs.{◌modulo◌}
-use Rattle.encoder.specs.{◌before◌}
+use Rattle.encoder.specs.{Refusal, ◌before◌}
 use Rattle.axis_offset.specs.{value_refusal}
 use Rattle.axis.specs.{declared.Axis.Axis, declared.Next.Next, Limits.rules_on, Limits.axis_refusal, Limits.unshifted_of, Limits.position_of, Reading.next}
 
 -- 16, 12, 11
-unfoldable pub preset_refusal : Axis → ℤ → ℕ
+unfoldable pub preset_refusal : Axis → ℤ → Option Refusal
 preset_refusal a v = axis_refusal a before value_refusal (rules_on a) v
 
 -- 6. absolute: the position becomes v modulo L. Relative: it becomes position + v, modulo L

@@ -1,5 +1,4 @@
-// The axis: a nameplate, its parameters, the shaft, and the offset by which presets shift the position (document 01, "The axis"). A call yields
-// the next axis and 0, or the same axis and the number of the refusal.
+// The axis: a nameplate, its parameters, the shaft, and the offset by which presets shift the position (document 01, "The axis").
 #![tactic(auto)]
 
 mod position;
@@ -7,13 +6,13 @@ mod preset;
 mod reading;
 
 ghost use Rattle.std.specs.Prelude.{◌≡◌};
-ghost use Rattle.axis.specs.{in_force_on};
+ghost use Rattle.axis.specs.{in_force_on, next_by};
 
 use axis_shaft::Shaft;
-use encoder::effect::{Effect, in_force};
+use encoder::effect::{InForce, in_force};
 use encoder::nameplate::Nameplate;
 use encoder::parameters::Parameters;
-use encoder::refusal;
+use encoder::refusal::{Refusal, refuse};
 use ring::between;
 
 #[derive(Clone, Copy, PartialEq, Eq)]
@@ -30,33 +29,43 @@ pub struct Axis {
     pub stored: i64,
 }
 
+// The answer of a call: the next axis, or the axis as it was beside the refusal. A refused start, too, leaves a record.
 #[derive(Clone, Copy, PartialEq, Eq)]
 pub struct Next {
     pub axis: Axis,
-    // 0 where the call was taken
-    pub refusal: u8,
+    pub refusal: Option<Refusal>,
 }
 
 impl Axis {
     // What is in force. A record outside its limits gets 16.
-    pub fn rules(self) -> Effect
+    pub fn rules(self) -> Result<InForce, Refusal>
         ensures { result ≡ in_force_on self }
     {
-        let plate = self.nameplate;
-        let parameters = self.parameters;
-        let shaft = self.shaft;
-        match in_force(plate, parameters) {
-            Effect::Taken(rules) => {
-                let span = rules.span.0;
-                let offset = between(self.offset, span);
-                let preset = between(self.preset, span);
-                let stored = between(self.stored, span);
-                if shaft.inside(rules) & offset & preset & stored {
-                    return Effect::Taken(rules);
-                }
-                Effect::Refused(refusal::NO_AXIS)
-            }
-            Effect::Refused(_) => Effect::Refused(refusal::NO_AXIS),
+        let Ok(rules) = in_force(self.nameplate, self.parameters) else {
+            return Err(Refusal::NoAxis);
+        };
+        let span = rules.span.0;
+        let offset = between(self.offset, span);
+        let preset = between(self.preset, span);
+        let stored = between(self.stored, span);
+        let within = self.shaft.inside(rules) & offset & preset & stored;
+        refuse(!within, Refusal::NoAxis)?;
+        Ok(rules)
+    }
+
+    // The answer by the axis that a call yields.
+    fn next(self, yielded: Result<Axis, Refusal>) -> Next
+        ensures { result ≡ next_by self yielded }
+    {
+        match yielded {
+            Ok(axis) => Next {
+                axis,
+                refusal: None,
+            },
+            Err(refusal) => Next {
+                axis: self,
+                refusal: Some(refusal),
+            },
         }
     }
 }

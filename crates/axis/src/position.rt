@@ -4,17 +4,14 @@ ghost use Rattle.axis.specs.{reported};
 
 use crate::Axis;
 use axis_shaft::Reported;
-use encoder::effect::Effect;
+use encoder::refusal::Refusal;
 
 impl Axis {
     // Both positions.
-    pub fn position(self) -> Reported
+    pub fn position(self) -> Result<Reported, Refusal>
         ensures { result ≡ reported self }
     {
-        let shaft = self.shaft;
-        match self.rules() {
-            Effect::Taken(rules) => shaft.reported(rules, self.offset),
-            Effect::Refused(n) => Reported::Refused(n),
-        }
+        let rules = self.rules()?;
+        self.shaft.reported(rules, self.offset)
     }
 }

@@ -1,64 +1,51 @@
 // Presets, and the held preset value (document 01, "The axis", rule 6). The crate axis_offset refuses values and works out the offset.
 ghost use Rattle.std.specs.Prelude.{◌≡◌};
-ghost use Rattle.axis.specs.{Ready, preset, store};
+ghost use Rattle.axis.specs.{yielded, preset_refusal, presetted, holding, preset, store};
 
 use crate::{Axis, Next};
-use axis_offset::{offset_by, value_refusal};
-use axis_shaft::Reported;
-use encoder::effect::{Effect, InForce};
+use axis_offset::{check_value, offset_by};
+use encoder::refusal::Refusal;
 
 impl Axis {
     // An absolute preset sets the position to the value; a relative one adds the value.
     pub fn preset(self, value: i64, relative: bool) -> Next
         ensures { result ≡ preset self value relative }
     {
-        let axis = self;
-        match axis.rules() {
-            Effect::Taken(rules) => axis.shift(rules, value, relative),
-            Effect::Refused(n) => Next { axis, refusal: n },
-        }
+        self.next(self.presetted(value, relative))
     }
 
-    // A preset of an axis within its limits.
-    fn shift(self, rules: InForce, value: i64, relative: bool) -> Next
-        requires { Ready self rules }
-        ensures { result ≡ preset self value relative }
+    // The axis after a preset.
+    fn presetted(self, value: i64, relative: bool) -> Result<Axis, Refusal>
+        ensures { result ≡ yielded (preset_refusal self value) (presetted self value relative) }
     {
-        let mut axis = self;
-        let shaft = axis.shaft;
-        let n = value_refusal(rules, value);
-        if n != 0 {
-            return Next { axis, refusal: n };
-        }
-        match shaft.reported(rules, axis.offset) {
-            Reported::At {
-                position,
-                unshifted,
-            } => {
-                axis.offset = offset_by(value, relative, position, unshifted, rules.span);
-                axis.preset = value;
-                Next { axis, refusal: 0 }
-            }
-            // never: the shaft of an axis within its limits is within its own limits
-            Reported::Refused(n) => Next { axis, refusal: n },
-        }
+        let rules = self.rules()?;
+        check_value(rules, value)?;
+        // an axis within its limits always has a position
+        let at = self.shaft.reported(rules, self.offset)?;
+        let offset = offset_by(value, relative, at.position, at.unshifted, rules.span);
+        Ok(Axis {
+            offset,
+            preset: value,
+            ..self
+        })
     }
 
     // Sets the held preset value, and makes no preset.
     pub fn store(self, value: i64) -> Next
         ensures { result ≡ store self value }
     {
-        let mut axis = self;
-        match axis.rules() {
-            Effect::Taken(rules) => {
-                let n = value_refusal(rules, value);
-                if n != 0 {
-                    return Next { axis, refusal: n };
-                }
-                axis.stored = value;
-                Next { axis, refusal: 0 }
-            }
-            Effect::Refused(n) => Next { axis, refusal: n },
-        }
+        self.next(self.holding(value))
+    }
+
+    // The axis with a held preset value.
+    fn holding(self, value: i64) -> Result<Axis, Refusal>
+        ensures { result ≡ yielded (preset_refusal self value) (holding self value) }
+    {
+        let rules = self.rules()?;
+        check_value(rules, value)?;
+        Ok(Axis {
+            stored: value,
+            ..self
+        })
     }
 }

@@ -1,53 +1,42 @@
 // Start and reading (document 01, "The axis", rules 1 to 4). The crate axis_shaft moves the place.
 ghost use Rattle.std.specs.Prelude.{◌≡◌};
-ghost use Rattle.axis.specs.{refused, fresh, begun_by, start, start_raw, read_raw, read};
+ghost use Rattle.encoder.specs.{rules_of, fields_of};
+ghost use Rattle.sensor.specs.{raw_of};
+ghost use Rattle.axis_shaft.specs.{started, shaft_refusal};
+ghost use Rattle.axis.specs.{Ready, yielded, begun_by, start_refusal, start, start_raw_refusal, start_raw, at_raw, read_raw_refusal, read_raw, read_refusal, read};
 
 use crate::{Axis, Next};
-use axis_shaft::{Moved, Shaft};
-use encoder::effect::{Effect, in_force};
+use axis_shaft::Shaft;
+use encoder::effect::{InForce, in_force};
 use encoder::nameplate::Nameplate;
 use encoder::parameters::Parameters;
 use encoder::quantity::{Steps, Turns};
-use sensor::{Reading, raw_number};
+use encoder::refusal::Refusal;
+use sensor::raw_number;
 
 impl Axis {
     // Starts an axis at a first reading. A refused start leaves a record that gets 16 from every call.
     pub fn start(plate: Nameplate, parameters: Parameters, step: Steps, turn: Turns) -> Next
         ensures { result ≡ start plate parameters step.0 turn.0 }
     {
-        match in_force(plate, parameters) {
-            Effect::Taken(rules) => match raw_number(plate, step, turn) {
-                Reading::Number(raw) => Axis::begun(plate, parameters, Shaft::begin(rules, raw)),
-                Reading::Refused(n) => Axis::begun(plate, parameters, Moved::Refused(n)),
-            },
-            Effect::Refused(n) => Axis::begun(plate, parameters, Moved::Refused(n)),
-        }
+        Axis::begun(plate, parameters, first(plate, parameters, step, turn))
     }
 
     // Starts an axis at the raw number of a first reading.
     pub fn start_raw(plate: Nameplate, parameters: Parameters, raw: u32) -> Next
         ensures { result ≡ start_raw plate parameters raw }
     {
-        match in_force(plate, parameters) {
-            Effect::Taken(rules) => Axis::begun(plate, parameters, Shaft::begin(rules, raw)),
-            Effect::Refused(n) => Axis::begun(plate, parameters, Moved::Refused(n)),
-        }
+        Axis::begun(plate, parameters, first_raw(plate, parameters, raw))
     }
 
-    // The axis at its first reading, or the record and the number of a refused start.
-    fn begun(plate: Nameplate, parameters: Parameters, first: Moved) -> Next
-        ensures { result ≡ begun_by plate parameters first }
+    // The axis at its first reading, without offset and presets.
+    fn begun(nameplate: Nameplate, parameters: Parameters, first: Result<Shaft, Refusal>) -> Next
+        ensures { result ≡ begun_by nameplate parameters first }
     {
-        match first {
-            Moved::To(shaft) => Axis::fresh(plate, parameters, shaft, 0),
-            Moved::Refused(n) => Axis::fresh(plate, parameters, Shaft::NOWHERE, n),
-        }
-    }
-
-    // An axis without offset and presets, and the number of the refusal.
-    fn fresh(nameplate: Nameplate, parameters: Parameters, shaft: Shaft, refusal: u8) -> Next
-        ensures { result ≡ refused (fresh nameplate parameters shaft) refusal }
-    {
+        let (shaft, refusal) = match first {
+            Ok(shaft) => (shaft, None),
+            Err(refusal) => (Shaft::NOWHERE, Some(refusal)),
+        };
         let axis = Axis {
             nameplate,
             parameters,
@@ -63,36 +52,59 @@ impl Axis {
     pub fn read(self, step: Steps, turn: Turns) -> Next
         ensures { result ≡ read self step.0 turn.0 }
     {
-        let axis = self;
-        let plate = axis.nameplate;
-        match raw_number(plate, step, turn) {
-            Reading::Number(raw) => axis.read_raw(raw),
-            Reading::Refused(n) => match axis.rules() {
-                Effect::Taken(_) => Next { axis, refusal: n },
-                // 16 precedes 8 and 9
-                Effect::Refused(first) => Next {
-                    axis,
-                    refusal: first,
-                },
-            },
-        }
+        self.next(self.at(step, turn))
     }
 
     // A new reading, by its raw number.
     pub fn read_raw(self, raw: u32) -> Next
         ensures { result ≡ read_raw self raw }
     {
-        let mut axis = self;
-        let shaft = axis.shaft;
-        match axis.rules() {
-            Effect::Taken(rules) => match shaft.moved(rules, raw) {
-                Moved::To(here) => {
-                    axis.shaft = here;
-                    Next { axis, refusal: 0 }
-                }
-                Moved::Refused(n) => Next { axis, refusal: n },
-            },
-            Effect::Refused(n) => Next { axis, refusal: n },
-        }
+        self.next(self.at_raw(raw))
     }
+
+    // The axis after a new reading.
+    fn at(self, step: Steps, turn: Turns) -> Result<Axis, Refusal>
+        ensures { result ≡ yielded (read_refusal self step.0 turn.0) (at_raw self (raw_of self.nameplate step.0 turn.0)) }
+    {
+        let rules = self.rules()?;
+        let raw = raw_number(self.nameplate, step, turn)?;
+        self.moved(rules, raw)
+    }
+
+    fn at_raw(self, raw: u32) -> Result<Axis, Refusal>
+        ensures { result ≡ yielded (read_raw_refusal self raw) (at_raw self raw) }
+    {
+        let rules = self.rules()?;
+        self.moved(rules, raw)
+    }
+
+    // The same of an axis within its limits.
+    fn moved(self, rules: InForce, raw: u32) -> Result<Axis, Refusal>
+        requires { Ready self rules }
+        ensures { result ≡ yielded (shaft_refusal rules self.shaft raw) (at_raw self raw) }
+    {
+        let shaft = self.shaft.moved(rules, raw)?;
+        Ok(Axis { shaft, ..self })
+    }
+}
+
+// The shaft at a first reading.
+fn first(
+    plate: Nameplate,
+    parameters: Parameters,
+    step: Steps,
+    turn: Turns,
+) -> Result<Shaft, Refusal>
+    ensures { result ≡ yielded (start_refusal plate parameters step.0 turn.0) (started (rules_of plate (fields_of parameters)) (raw_of plate step.0 turn.0)) }
+{
+    let rules = in_force(plate, parameters)?;
+    let raw = raw_number(plate, step, turn)?;
+    Shaft::begin(rules, raw)
+}
+
+fn first_raw(plate: Nameplate, parameters: Parameters, raw: u32) -> Result<Shaft, Refusal>
+    ensures { result ≡ yielded (start_raw_refusal plate parameters raw) (started (rules_of plate (fields_of parameters)) raw) }
+{
+    let rules = in_force(plate, parameters)?;
+    Shaft::begin(rules, raw)
 }

@@ -1,12 +1,9 @@
-use Rattle.std.proofs.Common.{rules}
-use Rattle.axis.specs.{preset, preset_refusal}
-use Rattle.axis.proofs.{PresetLaws.presets}
+-- The value is passed on as the machine reads it back.
+use Rattle.integer.proofs.{reads}
+use Rattle.axis.specs.{preset}
+use Rattle.axis.proofs.{ReadingLaws.next-is}
 use Rattle.axis.proofs.Axis.preset.Goals as goal
 
-pub shift-requires : goal.shift-requires
-unfolding preset preset_refusal
-shift-requires c = search (rules, presets)
-
-pub returns-in-Refused : goal.returns-in-Refused
-unfolding preset preset_refusal
-returns-in-Refused c = search (rules, presets)
+pub returns : goal.returns
+unfolding preset
+returns c = next-is _ _ _ _ _ (rw (reads c.ranges.value) at c.presetted.ensures) c.next.ensures

@@ -1,16 +1,7 @@
-use Rattle.std.proofs.Common.{rules}
-use Rattle.axis.specs.{read, read_refusal}
-use Rattle.axis.proofs.{ReadingLaws.readings}
+use Rattle.axis.specs.{read}
+use Rattle.axis.proofs.{ReadingLaws.next-is}
 use Rattle.axis.proofs.Axis.read.Goals as goal
 
-pub returns-in-Number : goal.returns-in-Number
-unfolding read read_refusal
-returns-in-Number c = search (rules, readings)
-
-pub returns-in-Taken : goal.returns-in-Taken
-unfolding read read_refusal
-returns-in-Taken c = search (rules, readings)
-
-pub returns-in-Refused-rules : goal.returns-in-Refused-rules
-unfolding read read_refusal
-returns-in-Refused-rules c = search (rules, readings)
+pub returns : goal.returns
+unfolding read
+returns c = next-is _ _ _ _ _ c.at.ensures c.next.ensures

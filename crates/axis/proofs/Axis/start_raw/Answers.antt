@@ -1,9 +1,7 @@
-use Rattle.std.proofs.Common.{rules}
-use Rattle.axis.proofs.{ReadingLaws.raw-starts}
+use Rattle.axis.specs.{start_raw}
+use Rattle.axis.proofs.{ReadingLaws.begun-is}
 use Rattle.axis.proofs.Axis.start_raw.Goals as goal
 
-pub returns-in-Taken : goal.returns-in-Taken
-returns-in-Taken c = search (rules, raw-starts)
-
-pub returns-in-Refused : goal.returns-in-Refused
-returns-in-Refused c = search (rules, raw-starts)
+pub returns : goal.returns
+unfolding start_raw
+returns c = begun-is _ _ _ _ _ _ c.first_raw.ensures c.begun.ensures

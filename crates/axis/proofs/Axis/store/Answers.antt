@@ -1,16 +1,9 @@
-use Rattle.std.proofs.Common.{rules}
-use Rattle.axis.specs.{store, preset_refusal}
-use Rattle.axis.proofs.{PresetLaws.stores}
+-- The value is passed on as the machine reads it back.
+use Rattle.integer.proofs.{reads}
+use Rattle.axis.specs.{store}
+use Rattle.axis.proofs.{ReadingLaws.next-is}
 use Rattle.axis.proofs.Axis.store.Goals as goal
 
-pub returns-then-n-ne0 : goal.returns-then-n-ne0
-unfolding store preset_refusal
-returns-then-n-ne0 c = search (rules, stores)
-
-pub returns-else-n-ne0 : goal.returns-else-n-ne0
-unfolding store preset_refusal
-returns-else-n-ne0 c = search (rules, stores)
-
-pub returns-in-Refused : goal.returns-in-Refused
-unfolding store preset_refusal
-returns-in-Refused c = search (rules, stores)
+pub returns : goal.returns
+unfolding store
+returns c = next-is _ _ _ _ _ (rw (reads c.ranges.value) at c.holding.ensures) c.next.ensures
