@@ -52,10 +52,12 @@ impl Axis {
         refuse(!within, Refusal::NoAxis)?;
         Ok(rules)
     }
+}
 
-    // The answer by the axis that a call yields.
-    fn next(self, yielded: Result<Axis, Refusal>) -> Next
-        ensures { result ≡ next_by self yielded }
+impl Next {
+    // The answer by the axis that a call on `axis` yields.
+    pub fn of(axis: Axis, yielded: Result<Axis, Refusal>) -> Next
+        ensures { result ≡ next_by axis yielded }
     {
         match yielded {
             Ok(axis) => Next {
@@ -63,7 +65,7 @@ impl Axis {
                 refusal: None,
             },
             Err(refusal) => Next {
-                axis: self,
+                axis,
                 refusal: Some(refusal),
             },
         }

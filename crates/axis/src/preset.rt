@@ -11,7 +11,7 @@ impl Axis {
     pub fn preset(self, value: i64, relative: bool) -> Next
         ensures { result ≡ preset self value relative }
     {
-        self.next(self.presetted(value, relative))
+        Next::of(self, self.presetted(value, relative))
     }
 
     // The axis after a preset.
@@ -34,7 +34,7 @@ impl Axis {
     pub fn store(self, value: i64) -> Next
         ensures { result ≡ store self value }
     {
-        self.next(self.holding(value))
+        Next::of(self, self.holding(value))
     }
 
     // The axis with a held preset value.

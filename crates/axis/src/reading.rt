@@ -52,14 +52,14 @@ impl Axis {
     pub fn read(self, step: Steps, turn: Turns) -> Next
         ensures { result ≡ read self step.0 turn.0 }
     {
-        self.next(self.at(step, turn))
+        Next::of(self, self.at(step, turn))
     }
 
     // A new reading, by its raw number.
     pub fn read_raw(self, raw: u32) -> Next
         ensures { result ≡ read_raw self raw }
     {
-        self.next(self.at_raw(raw))
+        Next::of(self, self.at_raw(raw))
     }
 
     // The axis after a new reading.

@@ -2,31 +2,26 @@
 #![tactic(auto)]
 
 ghost use Rattle.std.specs.Prelude.{◌≡◌};
-ghost use Rattle.axis_batch.specs.{batch, batch_list};
+ghost use Rattle.axis.specs.{yielded};
+ghost use Rattle.axis_batch.specs.{after, batch_refusal, batch, batch_list};
 
 use axis::{Axis, Next};
-use axis_shaft::Moved;
-use encoder::effect::Effect;
+use encoder::refusal::Refusal;
 
 // All of the raw numbers are read, or none. What is in force is worked out once.
 pub fn batch(axis: Axis, raws: &[u32], positions: &mut [u32]) -> Next
     ensures { (result ≡ batch axis raws.now positions.old)
         × (positions.new ≡ batch_list axis raws.now positions.old) }
 {
-    let shaft = axis.shaft;
-    let offset = axis.offset;
-    match axis.rules() {
-        Effect::Taken(rules) => match shaft.batch(rules, offset, raws, positions) {
-            Moved::To(here) => {
-                let mut next = axis;
-                next.shaft = here;
-                Next {
-                    axis: next,
-                    refusal: 0,
-                }
-            }
-            Moved::Refused(n) => Next { axis, refusal: n },
-        },
-        Effect::Refused(n) => Next { axis, refusal: n },
-    }
+    Next::of(axis, after(axis, raws, positions))
+}
+
+// The axis after all of them.
+fn after(axis: Axis, raws: &[u32], positions: &mut [u32]) -> Result<Axis, Refusal>
+    ensures { (result ≡ yielded (batch_refusal axis raws.now positions.old) (after axis raws.now))
+        × (positions.new ≡ batch_list axis raws.now positions.old) }
+{
+    let rules = axis.rules()?;
+    let shaft = axis.shaft.batch(rules, axis.offset, raws, positions)?;
+    Ok(Axis { shaft, ..axis })
 }

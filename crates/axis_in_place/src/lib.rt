@@ -3,17 +3,22 @@
 #![tactic(auto)]
 
 ghost use Rattle.std.specs.Prelude.{◌≡◌};
+ghost use Rattle.encoder.specs.{checked};
 ghost use Rattle.axis.specs.{read};
 
 use axis::Axis;
 use encoder::quantity::{Steps, Turns};
+use encoder::refusal::Refusal;
 
-// A new reading, as `Axis::read` takes it: 0 and the record moved, or the number of the refusal and the record as it was.
-pub fn read_in_place(axis: &mut Axis, step: Steps, turn: Turns) -> u8
-    ensures { (result ≡ (read axis.old step.0 turn.0).refusal)
+// A new reading, as `Axis::read` takes it: the record is moved, or refused and as it was.
+pub fn read_in_place(axis: &mut Axis, step: Steps, turn: Turns) -> Result<(), Refusal>
+    ensures { (result ≡ checked (read axis.old step.0 turn.0).refusal)
         × (axis.new ≡ (read axis.old step.0 turn.0).axis) }
 {
     let next = axis.read(step, turn);
     *axis = next.axis;
-    next.refusal
+    match next.refusal {
+        None => Ok(()),
+        Some(refusal) => Err(refusal),
+    }
 }

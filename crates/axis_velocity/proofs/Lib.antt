@@ -1,4 +1,4 @@
 pub mod VelocityLaws
 pub mod SpeedLaws
 pub use VelocityLaws.{rate-fits}
-pub use SpeedLaws.{at_moved, at-stays}
+pub use SpeedLaws.{at_moved, at-stays, elapsed-least}

@@ -1,24 +1,23 @@
 -- The answers of a velocity and of a shaft that moves with one: the first refusal in the table's order, or the rate of the move.
-use Rattle.std.specs.Prelude.{◌≡◌, refl, Bool, true, false, not, ℕ, zero, suc, ◌^◌, ◌≤◌, ◌<◌, ℤ, nat_abs}
-use Rattle.std.proofs.Common.{sym, ◌∙◌, arith, eq-eqb, ne_eqb}
+use Rattle.std.specs.Prelude.{◌≡◌, ℕ, ◌^◌, ◌≤◌, ◌<◌, eqb, not, Bool, ℤ, nat_abs, None, Some, Result, Ok, Err}
+use Rattle.std.proofs.Common.{◌∙◌, arith, eq-eqb, ne_eqb}
+use Rattle.std.proofs.lemmas.Bool.{eqb-false}
 use Rattle.std.specs.Int.{w64, w32}
 use mir.Val.{to_z, of_z}
 use Rattle.integer.proofs.{reads}
-use Rattle.encoder.specs.{InForce, NoAxis, when, ◌before◌, answer, Sound}
-use Rattle.encoder.proofs.{refused-is, before-first, before-none, when-none}
-use Rattle.sensor.specs.{Reading, Number, Refused as NotRead, numbered}
-use Rattle.sensor.proofs.{reading-taken, reading-refused}
-use Rattle.axis_shaft.specs.{Approach, By, declared.Approach.TheVariants.Refused as NotApproached, move_of, shaft_refusal, approached, Shaft, inside, moved_to}
-use Rattle.axis_shaft.specs.{To, declared.Moved.TheVariants.Refused as NotMoved, moved, MovedBy, declared.MovedBy.TheVariants.To as ToBy, declared.MovedBy.TheVariants.Refused as NotMovedBy, moved_by}
-use Rattle.axis_shaft.proofs.{move-most, move-fits, by-taken, by-refused, by-to-taken, by-to-refused, inside-true}
+use Rattle.encoder.specs.{InForce, Refusal, NothingElapsed, NoAxis, when, Sound}
+use Rattle.encoder.proofs.{value-is, refused-by, before-none, when-none, when-not}
+use Rattle.sensor.specs.{raw_of, step_refusal, numbered}
+use Rattle.axis_shaft.specs.{Shaft, MovedBy, inside, move_of, moved_to, shaft_refusal, approached, moved, moved_by}
+use Rattle.axis_shaft.proofs.{move-most, move-fits, inside-true}
 use Rattle.axis.specs.{Axis, Ready}
-use Rattle.axis.proofs.{ready_of, outside-answer, stands-none}
-use Rattle.axis_velocity.specs.{At, Refused, MovedAt, declared.MovedAt.TheVariants.To as ToAt, declared.MovedAt.TheVariants.Refused as NotMovedAt, rate_of, velocity_refusal}
-use Rattle.axis_velocity.specs.{velocity_of, velocity_at, moved_at_refusal, moved_at}
+use Rattle.axis.proofs.{stands-none}
+use Rattle.axis_velocity.specs.{MovedAt, rate_of, velocity_refusal, velocity_of, velocity_at, moved_at_refusal, moved_at}
 use Rattle.axis_velocity.proofs.VelocityLaws.{rate-fits}
 
-pub elapsed-least : (e : ℕ) → (e ≡ 0 → ⊥) → 0 < e
-elapsed-least e h = omega arith
+-- a test of the elapsed time that gives no refusal
+pub elapsed-least : (e : ℕ) → when (eqb e 0) NothingElapsed ≡ None → 0 < e
+elapsed-least e none = let h = eqb-false e 0 (when-not _ _ none) in omega arith
 
 -- ---- the rate of a reading's move, whatever word it came in
 module _ (f : InForce) (s : Sound f) (last raw : ℕ) (d : ℤ) (d-is : d ≡ move_of f last raw) where
@@ -31,109 +30,90 @@ module _ (f : InForce) (s : Sound f) (last raw : ℕ) (d : ℤ) (d-is : d ≡ mo
 -- ---- the call
 module _ (a : Axis) (f : InForce) (r : Ready a f) where
   -- the move of a reading that is taken
-  module _ (raw : ℕ) (m : Approach) (d : ℤ) (h : m ≡ By d) (m-is : m ≡ approached f a.shaft raw) where
-    move-is : (shaft_refusal f a.shaft raw ≡ 0) × (d ≡ move_of f a.shaft.last.0 raw)
+  module _ (raw : ℕ) (d : ℤ) (m-is : Ok d ≡ approached f a.shaft raw) where
+    move-is : (shaft_refusal f a.shaft raw ≡ None) × (d ≡ move_of f a.shaft.last.0 raw)
     unfolding approached
-    move-is = by-taken m _ d (shaft_refusal f a.shaft raw) h m-is
+    move-is = value-is _ (shaft_refusal f a.shaft raw) d m-is
 
     pub move-small : nat_abs (to_z w64 (of_z w64 d)) ≤ 2 ^ 31
     move-small = small f r.shaft.sound a.shaft.last.0 raw d move-is.1
 
-  module _ (s t e : ℕ) where
-    pub velocity-14 : e ≡ 0 → Refused 14 ≡ velocity_at a s t e
+  module _ (s t e : ℕ) (x : Result ℤ Refusal) where
+    pub velocity-14 : (n : Refusal) → when (eqb e 0) NothingElapsed ≡ Some n → x ≡ Err n → x ≡ velocity_at a s t e
     unfolding velocity_at velocity_refusal
-    velocity-14 z = rw (stands-none a f r, eq-eqb e 0 z)
+    velocity-14 n refused x-is = x-is ∙ rw (stands-none a f r, refused)
 
-    module _ (e-not : e ≡ 0 → ⊥) (q : Reading) where
-      pub velocity-reading : (n : ℕ) → q ≡ NotRead n → q ≡ numbered a.nameplate s t → Refused n ≡ velocity_at a s t e
-      unfolding velocity_at velocity_refusal
-      velocity-reading n g q-is =
-          let i = reading-refused a.nameplate s t q n g q-is in
-          rw (stands-none a f r, ne_eqb e 0 e-not, i.0, before-first n _ i.1) (sym (refused-is Refused _ n i.1))
+    module _ (none : when (eqb e 0) NothingElapsed ≡ None) where
+      pub velocity-reading : (n : Refusal) → Err n ≡ numbered a.nameplate s t → x ≡ Err n → x ≡ velocity_at a s t e
+      unfolding velocity_at velocity_refusal numbered
+      velocity-reading n q-is x-is = x-is ∙ rw (stands-none a f r, none, refused-by (raw_of a.nameplate s t) (step_refusal a.nameplate s t) n q-is)
 
-      module _ (raw : ℕ) (g : q ≡ Number raw) (q-is : q ≡ numbered a.nameplate s t) (m : Approach) where
-        number_is : (n : ℕ) → shaft_refusal f a.shaft raw ≡ n → velocity_refusal a s t e ≡ n
-        unfolding velocity_refusal
-        number_is n h =
-            let i = reading-taken a.nameplate s t q raw g q-is in
-            rw (stands-none a f r, ne_eqb e 0 e-not, i.0, ← i.1, ← r.is) h
+      module _ (raw : ℕ) (q-is : Ok raw ≡ numbered a.nameplate s t) where
+        number_is : (step_refusal a.nameplate s t ≡ None) × (raw ≡ raw_of a.nameplate s t)
+        unfolding numbered
+        number_is = value-is (raw_of a.nameplate s t) (step_refusal a.nameplate s t) raw q-is
 
-        pub velocity-move : (n : ℕ) → m ≡ NotApproached n → m ≡ approached f a.shaft raw → Refused n ≡ velocity_at a s t e
-        unfolding velocity_at approached
-        velocity-move n h m-is =
-            let i = by-refused m _ (shaft_refusal f a.shaft raw) n h m-is in
-            rw (number_is n i.0) (sym (refused-is Refused _ n i.1))
+        pub velocity-move : (n : Refusal) → Err n ≡ approached f a.shaft raw → x ≡ Err n → x ≡ velocity_at a s t e
+        unfolding velocity_at velocity_refusal approached
+        velocity-move n m-is x-is =
+            x-is ∙ rw (stands-none a f r, none, number_is.0, ← number_is.1, ← r.is, refused-by _ (shaft_refusal f a.shaft raw) n m-is)
 
-        pub velocity-at : (d z : ℤ) → m ≡ By d → z ≡ rate_of f (to_z w64 (of_z w64 d)) e → m ≡ approached f a.shaft raw
-            → At (to_z w32 (of_z w32 z)) ≡ velocity_at a s t e
-        unfolding velocity_at
-        velocity-at d z h z-is m-is =
-            let i = move-is raw m d h m-is in
-            let j = reading-taken a.nameplate s t q raw g q-is in
-            rw (number_is 0 i.0, rate-of f r.shaft.sound a.shaft.last.0 raw d i.1 e z z-is, j.1, r.is)
+        pub velocity-at : (d z : ℤ) → Ok d ≡ approached f a.shaft raw → z ≡ rate_of f (to_z w64 (of_z w64 d)) e → x ≡ Ok (to_z w32 (of_z w32 z))
+            → x ≡ velocity_at a s t e
+        unfolding velocity_at velocity_refusal
+        velocity-at d z m-is z-is x-is =
+            let i = move-is raw d m-is in
+            x-is
+            ∙ rw (stands-none a f r, none, number_is.0, ← number_is.1, ← r.is, i.0, rate-of f r.shaft.sound a.shaft.last.0 raw d i.1 e z z-is)
 
--- ---- the shaft that moves: q is the answer of its move
-module _ (f : InForce) (k : Shaft) (raw : ℕ) (q : MovedBy) (q-is : q ≡ moved_by f k raw) (m : Shaft) (d : ℤ) (h : q ≡ ToBy m d) where
-  taken : (shaft_refusal f k raw ≡ 0) × (m ≡ moved_to f k raw) × (d ≡ move_of f k.last.0 raw)
+-- ---- the shaft that moves, with its move
+module _ (f : InForce) (k : Shaft) (raw : ℕ) (m : MovedBy) (q-is : Ok m ≡ moved_by f k raw) where
+  taken : (shaft_refusal f k raw ≡ None) × (m.shaft ≡ moved_to f k raw) × (m.d ≡ move_of f k.last.0 raw)
   unfolding moved_by
-  taken = by-to-taken q _ m _ d (shaft_refusal f k raw) h q-is
+  taken = let i = value-is _ (shaft_refusal f k raw) m q-is in (i.0, rw i.1, rw i.1)
 
   pub at-sound : Sound f
   unfolding shaft_refusal
-  at-sound = (inside-true f k (when-none (inside f k) 15 (before-none (when (not (inside f k)) NoAxis) _ taken.0).0)).sound
+  at-sound = (inside-true f k (when-none (inside f k) _ (before-none (when (not (inside f k)) NoAxis) _ taken.0).0)).sound
 
-  pub at_small : nat_abs (to_z w64 (of_z w64 d)) ≤ 2 ^ 31
-  at_small = small f at-sound k.last.0 raw d taken.2
+  pub at_small : nat_abs (to_z w64 (of_z w64 m.d)) ≤ 2 ^ 31
+  at_small = small f at-sound k.last.0 raw m.d taken.2
 
-module _ (f : InForce) (k : Shaft) (raw e : ℕ) where
-  pub moved-at-14 : (b : Bool) (n m : ℕ) → e ≡ 0 → b ≡ inside f k → n ≡ when (not b) 16 → m ≡ (n before 14) → NotMovedAt m ≡ moved_at f k raw e
-  unfolding moved_at moved_at_refusal
-  moved-at-14 b n m z b-is n-is m-is = rw (m-is, n-is, ← b-is, eq-eqb e 0 z) (by _ b)
-    where
-      by : (t : MovedAt) (b : Bool) → NotMovedAt (when (not b) 16 before 14) ≡ answer NotMovedAt t (when (not b) 16 before 14)
-      by t true = refl
-      by t false = refl
+module _ (f : InForce) (k : Shaft) (raw e : ℕ) (x : Result MovedAt Refusal) where
+  module _ (b : Bool) (b-is : b ≡ inside f k) where
+    pub moved-at-16 : (n : Refusal) → when (not b) NoAxis ≡ Some n → x ≡ Err n → x ≡ moved_at f k raw e
+    unfolding moved_at moved_at_refusal
+    moved-at-16 n refused x-is = x-is ∙ rw (← b-is, refused)
 
-  number_at : (e ≡ 0 → ⊥) → moved_at_refusal f k raw e ≡ shaft_refusal f k raw
-  unfolding moved_at_refusal shaft_refusal
-  number_at e-not = rw (ne_eqb e 0 e-not)
+    pub moved-at-14 : e ≡ 0 → when (not b) NoAxis ≡ None → x ≡ Err NothingElapsed → x ≡ moved_at f k raw e
+    unfolding moved_at moved_at_refusal
+    moved-at-14 z none x-is = x-is ∙ rw (← b-is, none, eq-eqb e 0 z)
 
-  module _ (e-not : e ≡ 0 → ⊥) (q : MovedBy) (q-is : q ≡ moved_by f k raw) where
-    pub moved-at-no : (n : ℕ) → q ≡ NotMovedBy n → NotMovedAt n ≡ moved_at f k raw e
+  module _ (e-not : e ≡ 0 → ⊥) where
+    pub refusal_at : moved_at_refusal f k raw e ≡ shaft_refusal f k raw
+    unfolding moved_at_refusal shaft_refusal
+    refusal_at = rw (ne_eqb e 0 e-not)
+
+    pub moved-at-no : (n : Refusal) → Err n ≡ moved_by f k raw → x ≡ Err n → x ≡ moved_at f k raw e
     unfolding moved_by moved_at
-    moved-at-no n h =
-        let i = by-to-refused q _ _ (shaft_refusal f k raw) n h q-is in
-        rw (number_at e-not, i.0) (sym (refused-is NotMovedAt _ n i.1))
+    moved-at-no n q-is x-is = x-is ∙ rw (refusal_at, refused-by _ (shaft_refusal f k raw) n q-is)
 
-    pub moved-at-to : (m : Shaft) (d z : ℤ) → q ≡ ToBy m d → z ≡ rate_of f (to_z w64 (of_z w64 d)) e → ToAt m (to_z w32 (of_z w32 z)) ≡ moved_at f k raw e
+    pub moved-at-to : (m : MovedBy) (z : ℤ) → Ok m ≡ moved_by f k raw → z ≡ rate_of f (to_z w64 (of_z w64 m.d)) e
+        → x ≡ Ok (record { shaft = m.shaft; velocity = to_z w32 (of_z w32 z) }) → x ≡ moved_at f k raw e
     unfolding moved_at
-    moved-at-to m d z h z-is =
-        let i = taken f k raw q q-is m d h in
-        rw (number_at e-not, i.0, i.1, rate-of f (at-sound f k raw q q-is m d h) k.last.0 raw d i.2 e z z-is)
-
-pub ruleset moves = (elapsed-least, at-sound, at_small, moved-at-14, moved-at-no, moved-at-to)
+    moved-at-to m z q-is z-is x-is =
+        let i = taken f k raw m q-is in
+        x-is ∙ rw (refusal_at, i.0, i.1, rate-of f (at-sound f k raw m q-is) k.last.0 raw m.d i.2 e z z-is)
 
 -- ---- from that answer back: whether the shaft has moved, and the velocity
-at-taken : (q : MovedAt) (k m : Shaft) (z v : ℤ) (n : ℕ) → q ≡ ToAt m v → q ≡ answer NotMovedAt (ToAt k z) n → (n ≡ 0) × (m ≡ k) × (v ≡ z)
-at-taken q k m z v zero t q-is = let h : ToAt m v ≡ ToAt k z = sym t ∙ q-is in (refl, cc, cc)
-at-taken q k m z v (suc n) t q-is = let h : ToAt m v ≡ NotMovedAt (suc n) = sym t ∙ q-is in let w : ◌≡◌ {A = ℕ} 0 1 = cc in absurd (omega arith)
+module _ (f : InForce) (k : Shaft) (raw e : ℕ) (some : 0 < e) where
+  shaft-refusal : moved_at_refusal f k raw e ≡ shaft_refusal f k raw
+  shaft-refusal = refusal_at f k raw e (Err NoAxis) (λ z. omega arith)
 
-at-refused : (q : MovedAt) (k : Shaft) (z : ℤ) (n j : ℕ) → q ≡ NotMovedAt j → q ≡ answer NotMovedAt (ToAt k z) n → (n ≡ j) × (j ≡ 0 → ⊥)
-at-refused q k z zero j t q-is = let h : NotMovedAt j ≡ ToAt k z = sym t ∙ q-is in let w : ◌≡◌ {A = ℕ} 0 1 = cc in absurd (omega arith)
-at-refused q k z (suc n) j t q-is = let h : NotMovedAt j ≡ NotMovedAt (suc n) = sym t ∙ q-is in let w : suc n ≡ j = cc in (w, λ v. omega arith)
-
-module _ (f : InForce) (k : Shaft) (raw e : ℕ) (some : 0 < e) (q : MovedAt) (q-is : q ≡ moved_at f k raw e) where
-  shaft-number : moved_at_refusal f k raw e ≡ shaft_refusal f k raw
-  shaft-number = number_at f k raw e (λ z. omega arith)
-
-  pub at_moved : (m : Shaft) (v : ℤ) → q ≡ ToAt m v → (moved f k raw ≡ To m) × (v ≡ velocity_of f k raw e)
+  pub at_moved : (m : MovedAt) → Ok m ≡ moved_at f k raw e → (moved f k raw ≡ Ok m.shaft) × (m.velocity ≡ velocity_of f k raw e)
   unfolding moved moved_at
-  at_moved m v h = let i = at-taken q _ m _ v (moved_at_refusal f k raw e) h q-is in (rw (← shaft-number, i.0, i.1), i.2)
+  at_moved m q-is = let i = value-is _ (moved_at_refusal f k raw e) m q-is in (rw (← shaft-refusal, i.0, i.1), rw i.1)
 
-  pub at-stays : (n : ℕ) → q ≡ NotMovedAt n → (moved f k raw ≡ NotMoved n) × (n ≡ 0 → ⊥)
+  pub at-stays : (n : Refusal) → Err n ≡ moved_at f k raw e → moved f k raw ≡ Err n
   unfolding moved moved_at
-  at-stays n h =
-      let i = at-refused q _ _ (moved_at_refusal f k raw e) n h q-is in
-      (rw (← shaft-number, i.0) (refused-is NotMoved _ n i.1), i.1)
-
-pub ruleset speeds = (ready_of, elapsed-least, move-small, outside-answer, velocity-14, velocity-reading, velocity-move, velocity-at)
+  at-stays n q-is = rw (← shaft-refusal, refused-by _ (moved_at_refusal f k raw e) n q-is)

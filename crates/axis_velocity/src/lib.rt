@@ -4,73 +4,46 @@
 ghost use Rattle.std.specs.Prelude.{◌≡◌, ◌<◌, ◌≤◌, ◌^◌, nat_abs};
 ghost use Rattle.integer.specs.{clamp};
 ghost use Rattle.encoder.specs.{Sound};
-ghost use Rattle.axis.specs.{Ready};
 ghost use Rattle.axis_velocity.specs.{factor_of, least, greatest, rate_of, velocity_at, moved_at};
 
 use axis::Axis;
-use axis_shaft::{Approach, MovedBy, Shaft};
-use encoder::effect::{Effect, InForce};
+use axis_shaft::Shaft;
+use encoder::effect::InForce;
 use encoder::quantity::{Steps, Turns};
-use encoder::refusal;
-use encoder::refusal::{first, when};
-use sensor::{Reading, raw_number};
-
-#[derive(Clone, Copy, PartialEq, Eq)]
-pub enum Speed {
-    At(i32),
-    Refused(u8),
-}
+use encoder::refusal::{Refusal, refuse};
+use sensor::raw_number;
 
 // The shaft after a new reading, and the velocity of its move.
 #[derive(Clone, Copy, PartialEq, Eq)]
-pub enum MovedAt {
-    To { shaft: Shaft, velocity: i32 },
-    Refused(u8),
+pub struct MovedAt {
+    pub shaft: Shaft,
+    pub velocity: i32,
 }
 
 // The velocity at a new reading, elapsed milliseconds after the last. The axis is not moved.
-pub fn velocity(axis: Axis, step: Steps, turn: Turns, elapsed: u16) -> Speed
+pub fn velocity(axis: Axis, step: Steps, turn: Turns, elapsed: u16) -> Result<i32, Refusal>
     ensures { result ≡ velocity_at axis step.0 turn.0 elapsed }
 {
-    match axis.rules() {
-        Effect::Taken(rules) => measured(axis, rules, step, turn, elapsed),
-        Effect::Refused(n) => Speed::Refused(n),
-    }
-}
-
-fn measured(axis: Axis, rules: InForce, step: Steps, turn: Turns, elapsed: u16) -> Speed
-    requires { Ready axis rules }
-    ensures { result ≡ velocity_at axis step.0 turn.0 elapsed }
-{
-    if elapsed == 0 {
-        return Speed::Refused(refusal::ELAPSED);
-    }
-    let plate = axis.nameplate;
-    let shaft = axis.shaft;
-    match raw_number(plate, step, turn) {
-        Reading::Number(raw) => match shaft.approach(rules, raw) {
-            Approach::By(d) => Speed::At(rate(rules, d, elapsed)),
-            Approach::Refused(n) => Speed::Refused(n),
-        },
-        Reading::Refused(n) => Speed::Refused(n),
-    }
+    let rules = axis.rules()?;
+    refuse(elapsed == 0, Refusal::NothingElapsed)?;
+    let raw = raw_number(axis.nameplate, step, turn)?;
+    let d = axis.shaft.approach(rules, raw)?;
+    Ok(rate(rules, d, elapsed))
 }
 
 // Moves the shaft to a new reading, elapsed milliseconds after the last. The move is worked out once, for place and velocity.
-pub fn moved_at(shaft: Shaft, rules: InForce, raw: u32, elapsed: u16) -> MovedAt
+pub fn moved_at(shaft: Shaft, rules: InForce, raw: u32, elapsed: u16) -> Result<MovedAt, Refusal>
     ensures { result ≡ moved_at rules shaft raw elapsed }
 {
     if elapsed == 0 {
-        let outside = when(!shaft.inside(rules), refusal::NO_AXIS);
-        return MovedAt::Refused(first(outside, refusal::ELAPSED));
+        refuse(!shaft.inside(rules), Refusal::NoAxis)?;
+        return Err(Refusal::NothingElapsed);
     }
-    match shaft.moved_by(rules, raw) {
-        MovedBy::To { shaft: here, d } => MovedAt::To {
-            shaft: here,
-            velocity: rate(rules, d, elapsed),
-        },
-        MovedBy::Refused(n) => MovedAt::Refused(n),
-    }
+    let moved = shaft.moved_by(rules, raw)?;
+    Ok(MovedAt {
+        shaft: moved.shaft,
+        velocity: rate(rules, moved.d, elapsed),
+    })
 }
 
 // The velocity of a move by d steps.

@@ -1,7 +1,7 @@
 -- Acknowledging (document 01, "One cycle", its last paragraph, as request 3 words it): a held error is gone after the second of two cycles, if bit 15 is 1 in the
 -- first and 0 in the second, STW2_ENC bit 10 is 1 in both and in the second neither cause is present. An error that the first leaves is still held after the
 -- second, with its code, if a cause is present there. The link alone decides it (crate cyclic_link), so that each of the two may be of telegram 81 or 83.
-use Rattle.std.specs.Prelude.{◌≡◌, Bool, true, false, ◌||◌, List, ℕ}
+use Rattle.std.specs.Prelude.{◌≡◌, Bool, true, false, ◌||◌, List, ℕ, None}
 use Rattle.std.proofs.Common.{◌∙◌}
 use Rattle.integer.specs.{bit}
 use Rattle.encoder.proofs.{before-none, when-none}
@@ -10,7 +10,7 @@ use Rattle.cyclic_link.specs.{Link, link_refusal, within, Class4.link}
 use Rattle.cyclic_link.proofs.{gone, heard-error, stays, has_code}
 use Rattle.cyclic.specs.{Cycled, faulty_at, stw2, stw, counted, sign, heard_in, stopped_in, class4, life, cycle_refusal, axis_after, link_left, done, cycle}
 use Rattle.cyclic.specs.{cycle83_refusal, cycle83}
-use Rattle.cyclic.proofs.CycleKept.{after_same, link-four, number-none}
+use Rattle.cyclic.proofs.CycleKept.{after_same, link-four, cycled-none}
 
 -- ---- a cycle of either telegram; class 2 and telegram 81 have one cycle
 pub data Telegram : Type 0 where
@@ -22,28 +22,28 @@ exchanged telegram81 a k raw output input = cycle a k raw output input
 exchanged (telegram83 e) a k raw output input = cycle83 a k raw e output input
 
 -- ---- a cycle that is not refused leaves these
-cycle-is : (t : Telegram) (a : Axis) (k : Link) (raw : ℕ) (output input : List ℕ) → (exchanged t a k raw output input).refusal ≡ 0
+cycle-is : (t : Telegram) (a : Axis) (k : Link) (raw : ℕ) (output input : List ℕ) → (exchanged t a k raw output input).refusal ≡ None
     → exchanged t a k raw output input
-    ≡ record { axis = axis_after a k raw output; link = link_left a k raw output; refusal = 0 }
+    ≡ record { axis = axis_after a k raw output; link = link_left a k raw output; refusal = None }
 unfolding cycle cycle83
-cycle-is telegram81 a k raw output input z = rw (number-none a _ k _ (cycle_refusal a k output input) z)
-cycle-is (telegram83 e) a k raw output input z = rw (number-none a _ k _ (cycle83_refusal a k e output input) z)
+cycle-is telegram81 a k raw output input z = rw (cycled-none a _ k _ (cycle_refusal a k output input) z)
+cycle-is (telegram83 e) a k raw output input z = rw (cycled-none a _ k _ (cycle83_refusal a k e output input) z)
 
 -- and its link was within its limits
-link-within : (t : Telegram) (a : Axis) (k : Link) (raw : ℕ) (output input : List ℕ) → (exchanged t a k raw output input).refusal ≡ 0
+link-within : (t : Telegram) (a : Axis) (k : Link) (raw : ℕ) (output input : List ℕ) → (exchanged t a k raw output input).refusal ≡ None
     → within (life a.parameters) k ≡ true
 unfolding cycle cycle83 cycle_refusal cycle83_refusal link_refusal
 link-within telegram81 a k raw output input z =
-    let h = before-none (axis_refusal a) _ (number-none a _ k _ (cycle_refusal a k output input) z) in
-    when-none _ 15 (before-none (link_refusal (life a.parameters) k) _ h.1).0
+    let h = before-none (axis_refusal a) _ (cycled-none a _ k _ (cycle_refusal a k output input) z) in
+    when-none _ _ (before-none (link_refusal (life a.parameters) k) _ h.1).0
 link-within (telegram83 e) a k raw output input z =
-    let h = before-none (axis_refusal a) _ (number-none a _ k _ (cycle83_refusal a k e output input) z) in
-    when-none _ 15 (before-none (link_refusal (life a.parameters) k) _ h.1).0
+    let h = before-none (axis_refusal a) _ (cycled-none a _ k _ (cycle83_refusal a k e output input) z) in
+    when-none _ _ (before-none (link_refusal (life a.parameters) k) _ h.1).0
 
 -- ---- the theorem: a and b are the axis at the first and at the second cycle, so that other calls may stand between the two
 module _ (t₁ t₂ : Telegram) (a b : Axis) (k : Link) (raw₁ raw₂ : ℕ) (out₁ out₂ in₁ in₂ : List ℕ) (c d : Cycled)
     (c-is : c ≡ exchanged t₁ a k raw₁ out₁ in₁) (d-is : d ≡ exchanged t₂ b c.link raw₂ out₂ in₂)
-    (class₁ : class4 a.parameters ≡ true) (class₂ : class4 b.parameters ≡ true) (first : c.refusal ≡ 0) (second : d.refusal ≡ 0) where
+    (class₁ : class4 a.parameters ≡ true) (class₂ : class4 b.parameters ≡ true) (first : c.refusal ≡ None) (second : d.refusal ≡ None) where
   -- the causes in the second: it is faulty; its counter, once it is counted, stands at its stop
   abbrev faulty : Bool
   faulty = faulty_at b raw₂
@@ -79,6 +79,6 @@ module _ (t₁ t₂ : Telegram) (a b : Axis) (k : Link) (raw₁ raw₂ : ℕ) (o
       (rw (d-are, d-link, code_is, some), rw (d-are, d-link) code_is)
 
 -- with nothing between the two, the second cycle gets the axis of the first, and it has the same class
-pub at_once : (t : Telegram) (a : Axis) (k : Link) (raw : ℕ) (output input : List ℕ) → (exchanged t a k raw output input).refusal ≡ 0
+pub at_once : (t : Telegram) (a : Axis) (k : Link) (raw : ℕ) (output input : List ℕ) → (exchanged t a k raw output input).refusal ≡ None
     → class4 a.parameters ≡ true → class4 (exchanged t a k raw output input).axis.parameters ≡ true
 at_once t a k raw output input e class = rw (cycle-is t a k raw output input e, (after_same a k raw output).1) class

@@ -46,7 +46,7 @@ module _ (k : Link) (x : Exchange) (u : Up k x) where
   unfolding taken_at cycle_refusal axis_refusal
   within =
       let a = x.axis in
-      raw-kept a (limits_of a (when-none (acceptable a) 15 (before-none (axis_refusal a) _ u.taken).0)) x.raw
+      raw-kept a (limits_of a (when-none (acceptable a) _ (before-none (axis_refusal a) _ u.taken).0)) x.raw
 
   module _ (e : made (rules_on x.axis) k (faulty x) word ≡ true) (below : sent x < range x) where
     pub put : position_of (answered k x).axis ≡ sent x

@@ -1,9 +1,9 @@
 -- A cycle keeps nameplate and parameters, and so what is in force. It keeps the axis within its limits, since it is a reading and a preset whose value
 -- was tested, or held within them.
-use Rattle.std.specs.Prelude.{◌≡◌, refl, Bool, true, false, cond, List, ℕ, zero, suc, ◌<◌, ℤ, nat_abs}
+use Rattle.std.specs.Prelude.{◌≡◌, refl, Bool, true, false, cond, List, ℕ, Option, None, Some, ◌<◌, ℤ, nat_abs}
 use Rattle.std.proofs.Common.{◌∙◌}
 use Rattle.std.proofs.lemmas.Bool.{false≢true}
-use Rattle.encoder.specs.{Parameters, InForce}
+use Rattle.encoder.specs.{Parameters, InForce, Refusal}
 use Rattle.axis.specs.{Axis, Next, rules_on, Ready, next, at_raw, read_raw, read_raw_refusal, presetted}
 use Rattle.axis.proofs.{Limits, limits_of, accepts, raw-kept, presetted-kept}
 use Rattle.cyclic_link.specs.{Life, Link, within, Class2.link as link2, Class4.link as link4, Classes.reaction}
@@ -49,9 +49,9 @@ pub read_same : (a : Axis) (raw : ℕ) → Same a (read_raw a raw).axis
 unfolding read_raw at_raw
 read_same a raw = by (read_raw_refusal a raw)
   where
-    by : (n : ℕ) → Same a (next a n (at_raw a raw)).axis
-    by zero = (refl, refl)
-    by (suc n) = (refl, refl)
+    by : (n : Option Refusal) → Same a (next a n (at_raw a raw)).axis
+    by None = (refl, refl)
+    by (Some r) = (refl, refl)
 
 pub preset-same : (a b : Axis) (v : ℤ) (relative made : Bool) → Same a b → Same a (cond made (presetted b v relative) b)
 unfolding presetted
@@ -66,10 +66,10 @@ after_same a k raw output =
     let o = (reaction class (life a.parameters) (rules_on b) k (faulty_at a raw) (control_by class output) b.stored).preset in
     rw (after_is a k raw output) (preset-same a b o.value o.relative o.made (read_same a raw))
 
--- ---- an answer without a refusal is of number 0
-pub number-none : (a b : Axis) (k j : Link) (n : ℕ) → (cycled a k b j n).refusal ≡ 0 → n ≡ 0
-number-none a b k j zero e = refl
-number-none a b k j (suc n) e = e
+-- ---- an answer without a refusal
+pub cycled-none : (a b : Axis) (k j : Link) (n : Option Refusal) → (cycled a k b j n).refusal ≡ None → n ≡ None
+cycled-none a b k j None e = refl
+cycled-none a b k j (Some r) e = e
 
 -- ---- the limits
 preset-by : (a : Axis) (v : ℤ) (relative made : Bool) → Limits a → (made ≡ true → nat_abs v < (rules_on a).span.0)
@@ -87,25 +87,25 @@ after_kept a k raw output l =
     let p = possible class (life a.parameters) (rules_on b) k (faulty_at a raw) (control_by class output) b.stored m.stored in
     rw (after_is a k raw output) (preset-by b o.value o.relative o.made m p.below)
 
-by_number : (a b : Axis) (k j : Link) (n : ℕ) → Limits a → Limits b → Limits (cycled a k b j n).axis
-by_number a b k j zero l m = m
-by_number a b k j (suc n) l m = l
+by_refusal : (a b : Axis) (k j : Link) (n : Option Refusal) → Limits a → Limits b → Limits (cycled a k b j n).axis
+by_refusal a b k j None l m = m
+by_refusal a b k j (Some r) l m = l
 
 pub cycle-kept : (a : Axis) (k : Link) (raw : ℕ) (output input : List ℕ) → Limits a → Limits (cycle a k raw output input).axis
 unfolding cycle
-cycle-kept a k raw output input l = by_number a (axis_after a k raw output) k _ (cycle_refusal a k output input) l (after_kept a k raw output l)
+cycle-kept a k raw output input l = by_refusal a (axis_after a k raw output) k _ (cycle_refusal a k output input) l (after_kept a k raw output l)
 
 pub cycle83-kept : (a : Axis) (k : Link) (raw e : ℕ) (output input : List ℕ) → Limits a → Limits (cycle83 a k raw e output input).axis
 unfolding cycle83
-cycle83-kept a k raw e output input l = by_number a (axis_after a k raw output) k _ (cycle83_refusal a k e output input) l (after_kept a k raw output l)
+cycle83-kept a k raw e output input l = by_refusal a (axis_after a k raw output) k _ (cycle83_refusal a k e output input) l (after_kept a k raw output l)
 
 -- ---- the link stays within its limits on the axis that the cycle leaves (request 3)
 abbrev pub Linked : Axis → Link → Type 0
 Linked a k = within (life a.parameters) k ≡ true
 
-linked-by : (a b : Axis) (k j : Link) (n : ℕ) → Same a b → Linked a k → Linked a j → Linked (cycled a k b j n).axis (cycled a k b j n).link
-linked-by a b k j zero s h i = rw s.1 i
-linked-by a b k j (suc n) s h i = h
+linked-by : (a b : Axis) (k j : Link) (n : Option Refusal) → Same a b → Linked a k → Linked a j → Linked (cycled a k b j n).axis (cycled a k b j n).link
+linked-by a b k j None s h i = rw s.1 i
+linked-by a b k j (Some r) s h i = h
 
 pub left-linked : (a : Axis) (k : Link) (raw : ℕ) (output : List ℕ) → Linked a k → Linked a (link_left a k raw output)
 unfolding link_after

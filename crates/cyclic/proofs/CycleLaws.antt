@@ -1,20 +1,20 @@
 -- One cycle on an axis within its limits. The two lengths decide whether it is refused; axis, link and input are what the calls yield, one after the
 -- other.
 pub use borrow.Author.Rules.{rules}
-use Rattle.std.specs.Prelude.{◌≡◌, refl, Bool, true, false, cond, not, List, ℕ, ◌%◌, ◌^◌, ◌<◌, eqb, nat_abs, length}
+use Rattle.std.specs.Prelude.{◌≡◌, refl, Bool, true, false, cond, List, ℕ, ◌%◌, ◌^◌, ◌<◌, eqb, nat_abs, length, Option, None, Some, is_some, Result, Ok, Err}
 use Rattle.std.proofs.Common.{sym, ap, ◌∙◌, arith, eqb-true}
 use Rattle.std.specs.Int.{w64}
 use mir.Val.{to_z, of_z}
 use Rattle.integer.specs.{big_endian, octets}
 use Rattle.integer.proofs.{Octets.Octets, big_endian-lt, reads, fits-abs}
-use Rattle.encoder.specs.{Parameters, Fields, InForce, ◌before◌, fields_of}
-use Rattle.encoder.proofs.{and_split, before-none, when-none}
-use Rattle.axis.specs.{Axis, Next, rules_on, Ready, read_raw}
+use Rattle.encoder.specs.{Parameters, Fields, InForce, Refusal, ◌before◌, fields_of}
+use Rattle.encoder.proofs.{and_split, when-none}
+use Rattle.axis.specs.{Axis, Next, rules_on, Ready, yielded, read_raw}
 use Rattle.axis.proofs.{limits_of, stands-none}
 use Rattle.cyclic_link.specs.{Link, Life, Control, Reaction, life_of, link_refusal, Classes.reaction, Possible}
 use Rattle.cyclic_link.proofs.{possible}
 use Rattle.cyclic.specs.{Cycled, Standing, faulty_at, taken_at, preset_by, standing, class4, life, input_octets, length_refusal, cycle_refusal, control_by, input_by, link_after}
-use Rattle.cyclic.specs.{axis_after, input_of, link_left, input_left, done, reaction_to, responded}
+use Rattle.cyclic.specs.{axis_after, input_of, link_left, input_left, done, reaction_to, responded, cycled, cycled_by}
 use Rattle.cyclic.proofs.{CycleKept.read-ready, CycleKept.read_same, CycleKept.preset-same, CycleKept.after_same, CycleKept.after_is, CycleKept.link-by, Class4Laws.at_position}
 use native.Mathlib.Nat as N
 use Rattle.cyclic.specs.Class2 as Class2
@@ -24,19 +24,23 @@ use Rattle.cyclic.specs.Class4 as Class4
 pub class-is : (p : Parameters) (g : Fields) → g ≡ fields_of p → class4 p ≡ g.class4
 class-is p g e = ap (λ (h : Fields). h.class4) (sym e)
 
-pub lengths : (w : Life) (k : Link) (class : Bool) (output input n : ℕ) → n ≡ (link_refusal w k before length_refusal class output input) → n ≡ 0
-    → (output ≡ 4) × (input ≡ input_octets class)
+pub lengths : (class : Bool) (output input : ℕ) → length_refusal class output input ≡ None → (output ≡ 4) × (input ≡ input_octets class)
 unfolding length_refusal
-lengths w k class output input n n-is none =
-    let buffers = (before-none (link_refusal w k) (length_refusal class output input) (sym n-is ∙ none)).1 in
-    let h = and_split (eqb output 4) (eqb input (input_octets class)) (when-none _ 12 buffers) in
+lengths class output input none =
+    let h = and_split (eqb output 4) (eqb input (input_octets class)) (when-none _ _ none) in
     (eqb-true _ _ h.0, eqb-true _ _ h.1)
 
--- ---- the number of a cycle on an axis within its limits
-pub number_is : (a : Axis) (f : InForce) (g : Fields) (w : Life) (k : Link) (output input : List ℕ) (n : ℕ) → Ready a f → g ≡ fields_of a.parameters → w ≡ life_of g
-    → n ≡ (link_refusal w k before length_refusal g.class4 (length output) (length input)) → n ≡ cycle_refusal a k output input
+-- ---- the refusal of a cycle on an axis within its limits
+pub refusal-is : (a : Axis) (f : InForce) (g : Fields) (w : Life) (k : Link) (output input : List ℕ) → Ready a f → g ≡ fields_of a.parameters → w ≡ life_of g
+    → cycle_refusal a k output input ≡ (link_refusal w k before length_refusal g.class4 (length output) (length input))
 unfolding cycle_refusal
-number_is a f g w k output input n r g-is w-is n-is = n-is ∙ rw (w-is, g-is, stands-none a f r)
+refusal-is a f g w k output input r g-is w-is = rw (w-is, g-is, stands-none a f r)
+
+-- the answer by the cycle that is run
+pub cycled-is : (a b : Axis) (k j : Link) (n : Option Refusal) (y : Result Cycled Refusal) (x : Cycled) → y ≡ yielded n (done b j) → x ≡ cycled_by a k y
+    → x ≡ cycled a k b j n
+cycled-is a b k j None y x y-is x-is = x-is ∙ rw y-is
+cycled-is a b k j (Some r) y x y-is x-is = x-is ∙ rw y-is
 
 -- ---- by the class: four octets are a number of 32 bits
 pub control-two : (class : Bool) (output : List ℕ) (w : ℕ) → class ≡ false → w ≡ big_endian output % 2 ^ 32 → Octets output → length output ≡ 4
@@ -56,7 +60,7 @@ input-two class k w b l i t b-is long l-is = l-is ∙ rw (long, t, at_position b
 
 -- ---- what follows on the raw number: x is the answer to it, c what the control sends, q the reaction, and b the axis after it with its positions
 module _ (w : Life) (f : InForce) (k : Link) (output : List ℕ) (g : Fields) (x : Next) (at : Ready x.axis f) (c : Control) (c-is : c ≡ control_by g.class4 output)
-    (q : Reaction) (q-is : q ≡ reaction g.class4 w f k (not (eqb x.refusal 0)) c (to_z w64 (of_z w64 x.axis.stored))) where
+    (q : Reaction) (q-is : q ≡ reaction g.class4 w f k (is_some x.refusal) c (to_z w64 (of_z w64 x.axis.stored))) where
   stored-lt : nat_abs x.axis.stored < f.span.0
   stored-lt = rw at.is (limits_of x.axis at.stands).stored
 
@@ -64,7 +68,7 @@ module _ (w : Life) (f : InForce) (k : Link) (output : List ℕ) (g : Fields) (x
   reads-back = q-is ∙ rw (reads (fits-abs {w = w64} x.axis.stored (omega (arith, stored-lt, at.shaft.sound.span-most))), c-is)
 
   pub preset-possible : Possible f q.preset
-  preset-possible = rw reads-back (possible g.class4 w f k (not (eqb x.refusal 0)) (control_by g.class4 output) x.axis.stored stored-lt)
+  preset-possible = rw reads-back (possible g.class4 w f k (is_some x.refusal) (control_by g.class4 output) x.axis.stored stored-lt)
 
   module _ (b : Standing) (b-is : b ≡ standing (preset_by x.axis q.preset)) where
     pub left-fields : g ≡ fields_of x.axis.parameters → g ≡ fields_of b.axis.parameters
@@ -73,7 +77,7 @@ module _ (w : Life) (f : InForce) (k : Link) (output : List ℕ) (g : Fields) (x
     pub left-standing : b ≡ standing b.axis
     left-standing = rw b-is
 
-    pub done-answer : ◌≡◌ {A = Cycled} (record { axis = b.axis; link = q.link; refusal = 0 }) (responded g.class4 w f k x output)
+    pub done-answer : ◌≡◌ {A = Cycled} (record { axis = b.axis; link = q.link; refusal = None }) (responded g.class4 w f k x output)
     done-answer = rw (b-is, reads-back)
 
     pub done-input : (l : List ℕ) → l ≡ input_by g.class4 q.link c.word b.axis → l ≡ input_by g.class4 q.link (control_by g.class4 output).word b.axis

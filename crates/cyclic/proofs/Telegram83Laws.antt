@@ -1,54 +1,51 @@
 -- The cycle of telegram 83. Its raw number is answered as in telegram 81, since the shaft that moves with a velocity is the shaft that moves; and NIST_B
 -- stands behind the twelve octets.
-use Rattle.std.specs.Prelude.{◌≡◌, refl, Bool, true, false, cond, not, ◌&&◌, List, ◌++◌, ℕ, zero, suc, ◌<◌, eqb, ℤ, pos, length, take, drop}
+use Rattle.std.specs.Prelude.{◌≡◌, refl, Bool, true, false, cond, not, ◌&&◌, List, ◌++◌, ℕ, None, Ok, Err, ◌<◌, eqb, ℤ, pos, length, take, drop}
 use Rattle.std.proofs.Common.{sym, ap, ◌∙◌, arith, eqb-true}
 use borrow.Rule.Slice.PartMut.{put_mid, post_of}
-use Rattle.std.proofs.Common.{ne_eqb}
 use Rattle.std.specs.Int.{w32}
 use mir.Val.{SFits, to_z, of_z}
 use Rattle.integer.specs.{octets}
 use Rattle.integer.proofs.{reads, then-number}
 use Rattle.ring.specs.{complement}
-use Rattle.encoder.specs.{Fields, InForce, ◌before◌, fields_of, WrongBuffer, NothingElapsed, when}
+use Rattle.encoder.specs.{Fields, InForce, Refusal, ◌before◌, fields_of, WrongBuffer, NothingElapsed, when}
 use Rattle.encoder.proofs.{and_split, before-none, when-none}
-use Rattle.axis_shaft.specs.{Shaft, move_of, moved}
-use Rattle.axis_velocity.specs.{MovedAt, declared.MovedAt.TheVariants.To as ToAt, declared.MovedAt.TheVariants.Refused as NotMovedAt, velocity_of, moved_at}
-use Rattle.axis_velocity.proofs.{rate-fits, at_moved, at-stays}
+use Rattle.axis_shaft.specs.{move_of}
+use Rattle.axis_velocity.specs.{MovedAt, velocity_of, moved_at}
+use Rattle.axis_velocity.proofs.{elapsed-least, rate-fits, at_moved, at-stays}
 use Rattle.axis.specs.{Axis, Next, rules_on, Ready, accepted, refused, with_shaft, read_raw}
-use Rattle.axis.proofs.{take-to, take_no, stands-none}
+use Rattle.axis.proofs.{stands-none}
 use Rattle.cyclic_link.specs.{Link, Life, life_of, link_refusal}
 use Rattle.cyclic.specs.{Cycled, Measured, faulty_at, Class4.input, class4, control_by, input_by, responded, axis_after, input_of, link_left}
 use Rattle.cyclic.specs.{input_left, done, nist_b, measured, input83, refusal83, cycle83_refusal}
-use Rattle.cyclic.proofs.{CycleKept.read-ready, CycleKept.after_same, CycleLaws.class-is, CycleLaws.taken-fields, CycleLaws.left-answer, CycleLaws.left-input}
+use Rattle.cyclic.proofs.{StandingLaws.take-to, StandingLaws.take_no, CycleKept.read-ready, CycleKept.after_same, CycleLaws.class-is, CycleLaws.taken-fields, CycleLaws.left-answer, CycleLaws.left-input}
 
--- ---- the raw number and NIST_B: q is the answer of the shaft
-module _ (a : Axis) (f : InForce) (r : Ready a f) (raw e : ℕ) (some : 0 < e) (q : MovedAt) (q-is : q ≡ moved_at f a.shaft raw e) where
-  nist-at : (z : ℤ) → (read_raw a raw).refusal ≡ 0 → z ≡ velocity_of f a.shaft raw e → z ≡ nist_b a raw e
+-- ---- the raw number and NIST_B
+module _ (a : Axis) (f : InForce) (r : Ready a f) (raw e : ℕ) (some : 0 < e) where
+  nist-at : (z : ℤ) → (read_raw a raw).refusal ≡ None → z ≡ velocity_of f a.shaft raw e → z ≡ nist_b a raw e
   unfolding nist_b faulty_at
   nist-at z taken z-is = z-is ∙ rw (taken, r.is)
 
-  module _ (k : Shaft) (v : ℤ) (h : q ≡ ToAt k v) where
-    next-at : accepted (with_shaft a k) ≡ read_raw a raw
-    next-at = take-to a f r raw (moved f a.shaft raw) (accepted (with_shaft a k)) k (at_moved f a.shaft raw e some q q-is k v h).0 refl refl
+  module _ (m : MovedAt) (q-is : Ok m ≡ moved_at f a.shaft raw e) where
+    next-at : accepted (with_shaft a m.shaft) ≡ read_raw a raw
+    next-at = take-to a f r raw m.shaft (sym (at_moved f a.shaft raw e some m q-is).0)
 
-    velocity-is : to_z w32 (of_z w32 v) ≡ velocity_of f a.shaft raw e
-    velocity-is = let i = (at_moved f a.shaft raw e some q q-is k v h).1 in rw (i, reads (rate-fits f (move_of f a.shaft.last.0 raw) e))
+    velocity-is : to_z w32 (of_z w32 m.velocity) ≡ velocity_of f a.shaft raw e
+    velocity-is = let i = (at_moved f a.shaft raw e some m q-is).1 in rw (i, reads (rate-fits f (move_of f a.shaft.last.0 raw) e))
 
-    pub measured-at : ◌≡◌ {A = Measured} (record { next = accepted (with_shaft a k); velocity = to_z w32 (of_z w32 v) }) (measured a raw e)
-    measured-at = rw (next-at, nist-at (to_z w32 (of_z w32 v)) (ap (λ (x : Next). x.refusal) (sym next-at)) velocity-is)
+    pub measured-at : ◌≡◌ {A = Measured} (record { next = accepted (with_shaft a m.shaft); velocity = to_z w32 (of_z w32 m.velocity) }) (measured a raw e)
+    measured-at = rw (next-at, nist-at (to_z w32 (of_z w32 m.velocity)) (ap (λ (x : Next). x.refusal) (sym next-at)) velocity-is)
 
-    pub measured-ready : Ready (with_shaft a k) f
-    measured-ready = read-ready a f r raw (accepted (with_shaft a k)) next-at
+    pub measured-ready : Ready (with_shaft a m.shaft) f
+    measured-ready = read-ready a f r raw (accepted (with_shaft a m.shaft)) next-at
 
-  module _ (n : ℕ) (h : q ≡ NotMovedAt n) where
+  module _ (n : Refusal) (q-is : Err n ≡ moved_at f a.shaft raw e) where
     next-no : refused a n ≡ read_raw a raw
-    next-no = take_no a f r raw (moved f a.shaft raw) (refused a n) n (at-stays f a.shaft raw e some q q-is n h).0 refl refl
+    next-no = take_no a f r raw n (sym (at-stays f a.shaft raw e some n q-is))
 
     pub measured-no : ◌≡◌ {A = Measured} (record { next = refused a n; velocity = pos 0 }) (measured a raw e)
     unfolding nist_b faulty_at
-    measured-no = rw (← next-no, ne_eqb n 0 (at-stays f a.shaft raw e some q q-is n h).1)
-
-pub ruleset measures = (measured-at, measured-ready, measured-no)
+    measured-no = rw (← next-no)
 
 -- NIST_B fits its word
 nist-fits : (a : Axis) (raw e : ℕ) → SFits w32 (nist_b a raw e)
@@ -59,27 +56,19 @@ nist-fits a raw e = by (faulty_at a raw)
     by true = record { sfits = omega arith }
     by false = rate-fits (rules_on a) (move_of (rules_on a) a.shaft.last.0 raw) e
 
--- ---- the refusal: a number of 0 tells class, lengths and time
-pub lengths-83 : (class : Bool) (output input e : ℕ) → refusal83 class output input e ≡ 0 → (class ≡ true) × (0 < e) × (output ≡ 4) × (input ≡ 16)
+-- ---- the refusal; none tells class, lengths and time
+pub lengths-83 : (class : Bool) (output input e : ℕ) → refusal83 class output input e ≡ None → (class ≡ true) × (0 < e) × (output ≡ 4) × (input ≡ 16)
 unfolding refusal83
 lengths-83 class output input e none =
     let h = before-none (when (not (class && eqb output 4 && eqb input 16)) WrongBuffer) (when (eqb e 0) NothingElapsed) none in
-    let i = and_split (class && eqb output 4) (eqb input 16) (when-none _ 12 h.0) in
+    let i = and_split (class && eqb output 4) (eqb input 16) (when-none _ _ h.0) in
     let j = and_split class (eqb output 4) i.0 in
-    (j.0, elapsed e h.1, eqb-true _ _ j.1, eqb-true _ _ i.1)
-  where
-    elapsed : (e : ℕ) → when (eqb e 0) NothingElapsed ≡ 0 → 0 < e
-    elapsed zero none = absurd (omega arith)
-    elapsed (suc e) none = omega arith
+    (j.0, elapsed-least e h.1, eqb-true _ _ j.1, eqb-true _ _ i.1)
 
-pub number-83 : (a : Axis) (f : InForce) (g : Fields) (w : Life) (k : Link) (e : ℕ) (output input : List ℕ) (n : ℕ) → Ready a f → g ≡ fields_of a.parameters → w ≡ life_of g
-    → n ≡ (link_refusal w k before refusal83 g.class4 (length output) (length input) e) → n ≡ cycle83_refusal a k e output input
+pub refusal83-is : (a : Axis) (f : InForce) (g : Fields) (w : Life) (k : Link) (e : ℕ) (output input : List ℕ) → Ready a f → g ≡ fields_of a.parameters → w ≡ life_of g
+    → cycle83_refusal a k e output input ≡ (link_refusal w k before refusal83 g.class4 (length output) (length input) e)
 unfolding cycle83_refusal
-number-83 a f g w k e output input n r g-is w-is n-is = n-is ∙ rw (w-is, g-is, stands-none a f r)
-
-pub passed-83 : (w : Life) (k : Link) (class : Bool) (output input e n : ℕ) → n ≡ (link_refusal w k before refusal83 class output input e) → n ≡ 0
-    → (class ≡ true) × (0 < e) × (output ≡ 4) × (input ≡ 16)
-passed-83 w k class output input e n n-is none = lengths-83 class output input e (before-none (link_refusal w k) (refusal83 class output input e) (sym n-is ∙ none)).1
+refusal83-is a f g w k e output input r g-is w-is = rw (w-is, g-is, stands-none a f r)
 
 -- ---- the input of telegram 81 has twelve octets
 pub twelve-long : (a : Axis) (k : Link) (raw : ℕ) (output : List ℕ) → class4 a.parameters ≡ true → length (input_left a k raw output) ≡ 12

@@ -1,6 +1,6 @@
 -- Request 2, the operator's case: a value too large is corrected while bit 31 stays up. Here are the cycles as data; `corrected` in proofs/Correction.antt
 -- is the theorem on them.
-use Rattle.std.specs.Prelude.{ℕ, ◌≡◌, Bool, true, false, ◌||◌, List, [], ◌∷◌, leb}
+use Rattle.std.specs.Prelude.{ℕ, ◌≡◌, Bool, true, false, ◌||◌, List, [], ◌∷◌, leb, None}
 use Rattle.axis.specs.{Axis, rules_on, read_raw}
 use Rattle.cyclic_link.specs.{Link, Class2.asked, value}
 use Rattle.cyclic.specs.{declared.Cycled.Cycled, Raw.faulty_at, Class2.word_of, Cycle.class4, Cycle.cycle_refusal, Cycle.cycle, Cycle.cycle_input}
@@ -26,7 +26,7 @@ link_behind k (x ∷ xs) = link_behind (answered k x).link xs
 
 -- on the link of the cycle before it is not refused, its axis is of class 2 with the class on, and bit 31 is 1
 pub record Up (k : Link) (x : Exchange) : Type 0 where
-  pub taken : cycle_refusal x.axis k x.output x.input ≡ 0
+  pub taken : cycle_refusal x.axis k x.output x.input ≡ None
   pub class2 : class4 x.axis.parameters ≡ false
   pub on : (rules_on x.axis).enabled ≡ true
   pub up : asked (word_of x.output) ≡ true

@@ -1,7 +1,7 @@
 -- One cycle, put together from its parts (document 01, "One cycle"; rows 13 and 16; request 3): an axis runs the cycle of the class that its parameters
 -- came from.
-use Rattle.std.specs.Prelude.{ℕ, Bool, cond, not, ◌&&◌, List, eqb, length}
-use Rattle.encoder.specs.{Parameters, InForce, WrongBuffer, when, ◌before◌, answer, fields_of}
+use Rattle.std.specs.Prelude.{ℕ, Bool, cond, not, ◌&&◌, List, eqb, length, Option, None, Some, is_some, Result, Ok, Err}
+use Rattle.encoder.specs.{Parameters, InForce, Refusal, WrongBuffer, when, ◌before◌, answer, fields_of}
 use Rattle.axis.specs.{Axis, Next, rules_on, axis_refusal}
 use Rattle.cyclic_link.specs.{Link, Life, Control, Reaction, life_of, link_refusal, Classes.reaction}
 use Rattle.cyclic.specs.{declared.Cycled.Cycled, Raw.faulty_at, Raw.taken_at, Preset.preset_by}
@@ -18,7 +18,7 @@ class4 p = (fields_of p).class4
 abbrev pub input_octets : Bool → ℕ
 input_octets class = cond class 12 4
 
-unfoldable pub length_refusal : Bool → ℕ → ℕ → ℕ
+unfoldable pub length_refusal : Bool → ℕ → ℕ → Option Refusal
 length_refusal class output input = when (not (eqb output 4 && eqb input (input_octets class))) WrongBuffer
 
 -- the sign of life of an axis with these parameters (request 3)
@@ -26,7 +26,7 @@ abbrev pub life : Parameters → Life
 life p = life_of (fields_of p)
 
 -- 16, of the axis or of the link, 13
-unfoldable pub cycle_refusal : Axis → Link → List ℕ → List ℕ → ℕ
+unfoldable pub cycle_refusal : Axis → Link → List ℕ → List ℕ → Option Refusal
 cycle_refusal a k output input =
     axis_refusal a
     before link_refusal (life a.parameters) k
@@ -64,20 +64,25 @@ link_left a k raw output = link_after (rules_on a) a.parameters k (faulty_at a r
 abbrev pub input_left : Axis → Link → ℕ → List ℕ → List ℕ
 input_left a k raw output = input_of (link_left a k raw output) (axis_after a k raw output) output
 
--- the answer by the number of its refusal: refused, axis and link are kept
+-- the answer by its refusal: refused, axis and link are kept
 abbrev pub done : Axis → Link → Cycled
-done a k = record { axis = a; link = k; refusal = 0 }
+done a k = record { axis = a; link = k; refusal = None }
 
-abbrev pub refused : Axis → Link → ℕ → Cycled
-refused a k n = record { axis = a; link = k; refusal = n }
+abbrev pub refused : Axis → Link → Refusal → Cycled
+refused a k r = record { axis = a; link = k; refusal = Some r }
 
-abbrev pub cycled : Axis → Link → Axis → Link → ℕ → Cycled
+abbrev pub cycled : Axis → Link → Axis → Link → Option Refusal → Cycled
 cycled a k b j n = answer (refused a k) (done b j) n
+
+-- and by the cycle that is run
+abbrev pub cycled_by : Axis → Link → Result Cycled Refusal → Cycled
+cycled_by a k (Ok c) = c
+cycled_by a k (Err r) = refused a k r
 
 -- the part of an accepted cycle that follows on the raw number, where x is the answer to that number: the reaction to the output octets, then the axis
 -- with the preset that the reaction makes, and its link
 abbrev pub reaction_to : Bool → Life → InForce → Link → Next → List ℕ → Reaction
-reaction_to class w f k x output = reaction class w f k (not (eqb x.refusal 0)) (control_by class output) x.axis.stored
+reaction_to class w f k x output = reaction class w f k (is_some x.refusal) (control_by class output) x.axis.stored
 
 abbrev pub responded : Bool → Life → InForce → Link → Next → List ℕ → Cycled
 responded class w f k x output =

@@ -1,9 +1,9 @@
 -- Request 1, telegram 83: a cycle of its own for a class 4 axis, with the velocity in its input. 4 octets out, as in telegram 81; 16 in, the twelve of
 -- telegram 81 and then NIST_B. It is given the elapsed milliseconds e. Axis and link go forward as in telegram 81 (rows 13, 14 and 16).
-use Rattle.std.specs.Prelude.{ℕ, Bool, cond, not, ◌&&◌, List, ◌++◌, eqb, ℤ, pos, length}
+use Rattle.std.specs.Prelude.{ℕ, Bool, cond, not, ◌&&◌, List, ◌++◌, eqb, ℤ, pos, length, Option}
 use Rattle.integer.specs.{octets}
 use Rattle.ring.specs.{complement}
-use Rattle.encoder.specs.{WrongBuffer, NothingElapsed, when, ◌before◌, answer}
+use Rattle.encoder.specs.{Refusal, WrongBuffer, NothingElapsed, when, ◌before◌, answer}
 use Rattle.axis.specs.{Axis, rules_on, axis_refusal, read_raw}
 use Rattle.axis_velocity.specs.{velocity_of}
 use Rattle.cyclic_link.specs.{Link, link_refusal}
@@ -23,13 +23,13 @@ unfoldable pub input83 : Axis → Link → ℕ → ℕ → List ℕ → List ℕ
 input83 a k raw e output = input_left a k raw output ++ octets 4 (complement (nist_b a raw e))
 
 -- 13: other lengths than 4 and 16, and a class 2 axis whatever the lengths. 14: nothing elapsed, whatever the raw number
-unfoldable pub refusal83 : Bool → ℕ → ℕ → ℕ → ℕ
+unfoldable pub refusal83 : Bool → ℕ → ℕ → ℕ → Option Refusal
 refusal83 class output input e =
     when (not (class && eqb output 4 && eqb input 16)) WrongBuffer
     before when (eqb e 0) NothingElapsed
 
 -- 16, of the axis or of the link (request 3), 13, 14
-unfoldable pub cycle83_refusal : Axis → Link → ℕ → List ℕ → List ℕ → ℕ
+unfoldable pub cycle83_refusal : Axis → Link → ℕ → List ℕ → List ℕ → Option Refusal
 cycle83_refusal a k e output input =
     axis_refusal a
     before link_refusal (life a.parameters) k

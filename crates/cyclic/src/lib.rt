@@ -6,83 +6,73 @@ mod standing;
 pub mod telegram83;
 
 ghost use Rattle.std.specs.Prelude.{◌≡◌, length};
-ghost use Rattle.encoder.specs.{◌before◌, fields_of};
-ghost use Rattle.axis.specs.{Ready};
-ghost use Rattle.cyclic_link.specs.{life_of, link_refusal};
-ghost use Rattle.cyclic.specs.{standing, input_octets, length_refusal, control_by, input_by, axis_after, link_left, input_left, done, responded, cycle, cycle_input};
+ghost use Rattle.encoder.specs.{checked, fields_of};
+ghost use Rattle.axis.specs.{Ready, yielded};
+ghost use Rattle.cyclic.specs.{standing, input_octets, length_refusal, control_by, input_by, axis_after, link_left, done, cycled_by, responded, cycle_refusal, cycle, cycle_input};
 
 use axis::{Axis, Next};
 use cyclic_link::sign_of_life::life_of;
 use cyclic_link::{Control, Life, Link, react};
-use encoder::effect::{Effect, InForce};
+use encoder::effect::InForce;
 use encoder::parameters::Fields;
-use encoder::refusal;
-use encoder::refusal::{first, when};
+use encoder::refusal::{Refusal, refuse};
 use octets::{number, put_number};
 use standing::{Standing, preset, take};
 
-// The next axis and the next link, with the number of the refusal beside them.
+// The next axis and the next link; both as they were beside the refusal.
 #[derive(Clone, Copy, PartialEq, Eq)]
 pub struct Cycled {
     pub axis: Axis,
     pub link: Link,
-    // 0 where the call was taken
-    pub refusal: u8,
+    pub refusal: Option<Refusal>,
 }
 
 // One cycle: takes the raw number, does what the output octets ask for, and fills the input octets. A raw number that would be refused makes
-// the cycle faulty. What is in force is worked out once, here.
+// the cycle faulty.
 pub fn cycle(axis: Axis, link: Link, raw: u32, output: &[u8], input: &mut [u8]) -> Cycled
     ensures { (result ≡ cycle axis link raw output.now input.old)
         × (input.new ≡ cycle_input axis link raw output.now input.old) }
 {
-    match axis.rules() {
-        Effect::Taken(rules) => run(axis, link, rules, raw, output, input),
-        Effect::Refused(n) => Cycled {
-            axis,
-            link,
-            refusal: n,
-        },
+    Cycled::of(axis, link, run(axis, link, raw, output, input))
+}
+
+impl Cycled {
+    // The answer by the cycle that is run on `axis` and `link`.
+    pub(crate) fn of(axis: Axis, link: Link, run: Result<Cycled, Refusal>) -> Cycled
+        ensures { result ≡ cycled_by axis link run }
+    {
+        match run {
+            Ok(cycled) => cycled,
+            Err(refusal) => Cycled {
+                axis,
+                link,
+                refusal: Some(refusal),
+            },
+        }
     }
 }
 
-// One cycle of an axis within its limits.
-fn run(axis: Axis, link: Link, rules: InForce, raw: u32, output: &[u8], input: &mut [u8]) -> Cycled
-    requires { Ready axis rules }
-    ensures { (result ≡ cycle axis link raw output.now input.old)
+// What is in force is worked out once, here.
+fn run(axis: Axis, link: Link, raw: u32, output: &[u8], input: &mut [u8]) -> Result<Cycled, Refusal>
+    ensures { (result ≡ yielded (cycle_refusal axis link output.now input.old) (done (axis_after axis link raw output.now) (link_left axis link raw output.now)))
         × (input.new ≡ cycle_input axis link raw output.now input.old) }
 {
+    let rules = axis.rules()?;
     let parameters = axis.parameters;
     let fields = parameters.fields();
     let life = life_of(fields);
-    let n = refusal_of(life, link, fields.class4, output.len(), input.len());
-    if n != 0 {
-        return Cycled {
-            axis,
-            link,
-            refusal: n,
-        };
-    }
-    exchange(fields, life, axis, link, rules, raw, output, input)
+    link.check(life)?;
+    check_lengths(fields.class4, output.len(), input.len())?;
+    let next = take(axis, rules, raw);
+    Ok(respond(fields, life, next, link, rules, output, input))
 }
 
-// The refusal of the link, then that of the buffers, 0 where there is none.
-fn refusal_of(life: Life, link: Link, class4: bool, output: usize, input: usize) -> u8
-    ensures { result ≡ (link_refusal life link before length_refusal class4 output input) }
+// Refuses buffers of so many octets that are not those of the class.
+fn check_lengths(class4: bool, output: usize, input: usize) -> Result<(), Refusal>
+    ensures { result ≡ checked (length_refusal class4 output input) }
 {
-    let link_wrong = link.refusal(life);
-    let lengths_wrong = length_refusal(class4, output, input);
-    first(link_wrong, lengths_wrong)
-}
-
-// The refusal of buffers of so many octets, 0 for those of the class.
-fn length_refusal(class4: bool, output: usize, input: usize) -> u8
-    ensures { result ≡ length_refusal class4 output input }
-{
-    when(
-        !((output == 4) & (input == input_octets(class4))),
-        refusal::BUFFER,
-    )
+    let right = (output == 4) & (input == input_octets(class4));
+    refuse(!right, Refusal::WrongBuffer)
 }
 
 // 4 octets come in, or 12 in telegram 81.
@@ -90,26 +80,6 @@ fn input_octets(class4: bool) -> usize
     ensures { result ≡ input_octets class4 }
 {
     if class4 { 12 } else { 4 }
-}
-
-// One cycle with a link within its limits and buffers of the right lengths.
-fn exchange(
-    fields: Fields,
-    life: Life,
-    axis: Axis,
-    link: Link,
-    rules: InForce,
-    raw: u32,
-    output: &[u8],
-    input: &mut [u8],
-) -> Cycled
-    requires { Ready axis rules × (fields ≡ fields_of axis.parameters) × (life ≡ life_of fields)
-        × (length output.now ≡ 4) × (length input.old ≡ input_octets fields.class4) }
-    ensures { (result ≡ done (axis_after axis link raw output.now) (link_left axis link raw output.now))
-        × (input.new ≡ input_left axis link raw output.now) }
-{
-    let next = take(axis, rules, raw);
-    respond(fields, life, next, link, rules, output, input)
 }
 
 // What follows on the raw number in every cycle, that of telegram 83 too: the reaction to the output, the preset and the input.
@@ -128,7 +98,7 @@ fn respond(
         × (input.new ≡ input_by fields.class4 result.link (control_by fields.class4 output.now).word result.axis) }
 {
     let moved = next.axis;
-    let faulty = next.refusal != 0;
+    let faulty = next.refusal.is_some();
     let control = control_of(fields.class4, output);
     let reaction = react(
         fields.class4,
@@ -147,7 +117,7 @@ fn respond(
     Cycled {
         axis: left,
         link: kept,
-        refusal: 0,
+        refusal: None,
     }
 }
 

@@ -6,8 +6,7 @@ ghost use Rattle.cyclic.specs.{preset_by, standing, measured};
 
 use axis::{Axis, Next};
 use axis_offset::offset_by;
-use axis_shaft::{Moved, Reported};
-use axis_velocity::{MovedAt, moved_at};
+use axis_velocity::moved_at;
 use cyclic_link::Preset;
 use encoder::effect::InForce;
 use encoder::quantity::Units;
@@ -25,17 +24,15 @@ pub(crate) fn take(axis: Axis, rules: InForce, raw: u32) -> Next
     requires { Ready axis rules }
     ensures { (result ≡ read_raw axis raw) × Ready result.axis rules }
 {
-    let mut next = axis;
-    let shaft = axis.shaft;
-    match shaft.moved(rules, raw) {
-        Moved::To(here) => {
-            next.shaft = here;
-            Next {
-                axis: next,
-                refusal: 0,
-            }
-        }
-        Moved::Refused(n) => Next { axis, refusal: n },
+    match axis.shaft.moved(rules, raw) {
+        Ok(shaft) => Next {
+            axis: Axis { shaft, ..axis },
+            refusal: None,
+        },
+        Err(refusal) => Next {
+            axis,
+            refusal: Some(refusal),
+        },
     }
 }
 
@@ -52,24 +49,22 @@ pub(crate) fn measure(axis: Axis, rules: InForce, raw: u32, elapsed: u16) -> Mea
     requires { Ready axis rules × (0 < elapsed) }
     ensures { (result ≡ measured axis raw elapsed) × Ready result.next.axis rules }
 {
-    let mut next = axis;
-    let shaft = axis.shaft;
-    match moved_at(shaft, rules, raw, elapsed) {
-        MovedAt::To {
-            shaft: here,
-            velocity,
-        } => {
-            next.shaft = here;
-            Measured {
-                next: Next {
-                    axis: next,
-                    refusal: 0,
+    match moved_at(axis.shaft, rules, raw, elapsed) {
+        Ok(at) => Measured {
+            next: Next {
+                axis: Axis {
+                    shaft: at.shaft,
+                    ..axis
                 },
-                velocity,
-            }
-        }
-        MovedAt::Refused(n) => Measured {
-            next: Next { axis, refusal: n },
+                refusal: None,
+            },
+            velocity: at.velocity,
+        },
+        Err(refusal) => Measured {
+            next: Next {
+                axis,
+                refusal: Some(refusal),
+            },
             velocity: 0,
         },
     }
@@ -80,34 +75,29 @@ pub(crate) fn preset(axis: Axis, rules: InForce, asked: Preset) -> Standing
     requires { Ready axis rules × Possible rules asked }
     ensures { result ≡ standing (preset_by axis asked) }
 {
-    let mut next = axis;
-    let shaft = axis.shaft;
-    match shaft.reported(rules, axis.offset) {
-        Reported::At {
-            position,
-            unshifted,
-        } => {
-            if !asked.made {
-                return Standing {
-                    axis,
-                    position,
-                    unshifted,
-                };
-            }
-            let offset = offset_by(asked.value, asked.relative, position, unshifted, rules.span);
-            next.offset = offset;
-            next.preset = asked.value;
-            Standing {
-                axis: next,
-                position: Units((unshifted.0 as i64 + offset) as u32),
-                unshifted,
-            }
-        }
-        // never: the axis is within its limits
-        Reported::Refused(_) => Standing {
+    // an axis within its limits always has a position
+    let at = axis.shaft.reported(rules, axis.offset).unwrap();
+    if !asked.made {
+        return Standing {
             axis,
-            position: Units(0),
-            unshifted: Units(0),
+            position: at.position,
+            unshifted: at.unshifted,
+        };
+    }
+    let offset = offset_by(
+        asked.value,
+        asked.relative,
+        at.position,
+        at.unshifted,
+        rules.span,
+    );
+    Standing {
+        axis: Axis {
+            offset,
+            preset: asked.value,
+            ..axis
         },
+        position: Units((at.unshifted.0 as i64 + offset) as u32),
+        unshifted: at.unshifted,
     }
 }

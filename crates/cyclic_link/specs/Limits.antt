@@ -1,6 +1,6 @@
 -- The limits of a link that is brought (request 3; row 16). They ask for the parameters of the axis: a link that one axis has left may get 16 on another.
-use Rattle.std.specs.Prelude.{ℕ, Bool, cond, not, ◌&&◌, ◌||◌, eqb, leb}
-use Rattle.encoder.specs.{NoAxis, when}
+use Rattle.std.specs.Prelude.{ℕ, Bool, cond, not, ◌&&◌, ◌||◌, eqb, leb, Option}
+use Rattle.encoder.specs.{Refusal, NoAxis, when}
 use Rattle.cyclic_link.specs.{declared.Link.Link, declared.Life.Life, Class4.sensor_fault, Class4.life_fault}
 
 -- the counter is 0, or not above its stop on an axis with a sign of life
@@ -19,5 +19,5 @@ unfoldable pub within : Life → Link → Bool
 within w k = counter_within w k && leb k.expected 15 && code_within w k
 
 -- 16: a link outside its limits
-unfoldable pub link_refusal : Life → Link → ℕ
+unfoldable pub link_refusal : Life → Link → Option Refusal
 link_refusal w k = when (not (within w k)) NoAxis

@@ -6,21 +6,24 @@ pub preset-after-requires : goal.preset-after-requires
 preset-after-requires c =
     let a = c.args in
     let p = c.requires in
-    (p.0, preset-possible a.life _ a.link _ a.fields a.next p.0 _ c.control_of-control.ensures _ c.react-reaction.ensures)
+    let q = rw c.is_some-faulty.ensures at c.react-reaction.ensures in
+    (p.0, preset-possible a.life _ a.link _ a.fields a.next p.0 _ c.control_of-control.ensures _ q)
 
 pub fill-requires : goal.fill-requires
 fill-requires c =
     let a = c.args in
-    let p = c.requires in (
-      left-fields a.life _ a.link _ a.fields a.next p.0 _ c.control_of-control.ensures _ c.react-reaction.ensures _ c.preset-after.ensures p.1,
-      left-standing a.life _ a.link _ a.fields a.next p.0 _ c.control_of-control.ensures _ c.react-reaction.ensures _ c.preset-after.ensures,
+    let p = c.requires in
+    let q = rw c.is_some-faulty.ensures at c.react-reaction.ensures in (
+      left-fields a.life _ a.link _ a.fields a.next p.0 _ c.control_of-control.ensures _ q _ c.preset-after.ensures p.1,
+      left-standing a.life _ a.link _ a.fields a.next p.0 _ c.control_of-control.ensures _ q _ c.preset-after.ensures,
       p.3,
     )
 
 pub returns : goal.returns
 returns c =
     let a = c.args in
-    let p = c.requires in (
-      done-answer a.life _ a.link _ a.fields a.next p.0 _ c.control_of-control.ensures _ c.react-reaction.ensures _ c.preset-after.ensures,
-      done-input a.life _ a.link _ a.fields a.next p.0 _ c.control_of-control.ensures _ c.react-reaction.ensures _ c.preset-after.ensures _ c.fill.ensures,
+    let p = c.requires in
+    let q = rw c.is_some-faulty.ensures at c.react-reaction.ensures in (
+      done-answer a.life _ a.link _ a.fields a.next p.0 _ c.control_of-control.ensures _ q _ c.preset-after.ensures,
+      done-input a.life _ a.link _ a.fields a.next p.0 _ c.control_of-control.ensures _ q _ c.preset-after.ensures _ c.fill.ensures,
     )

@@ -6,4 +6,4 @@ use Rattle.axis.proofs.Axis.preset.Goals as goal
 
 pub returns : goal.returns
 unfolding preset
-returns c = next-is _ _ _ _ _ (rw (reads c.ranges.value) at c.presetted.ensures) c.next.ensures
+returns c = next-is _ _ _ _ _ (rw (reads c.ranges.value) at c.presetted.ensures) c.of.ensures

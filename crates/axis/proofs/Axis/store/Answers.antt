@@ -6,4 +6,4 @@ use Rattle.axis.proofs.Axis.store.Goals as goal
 
 pub returns : goal.returns
 unfolding store
-returns c = next-is _ _ _ _ _ (rw (reads c.ranges.value) at c.holding.ensures) c.next.ensures
+returns c = next-is _ _ _ _ _ (rw (reads c.ranges.value) at c.holding.ensures) c.of.ensures
