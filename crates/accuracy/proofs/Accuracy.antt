@@ -1,6 +1,6 @@
 -- THE THEOREM (document 01, "The distance rule", demand 3): the claim of specs/Claim.antt holds of the library. By induction on the calls: the start
 -- matches the opened ledger, and each call keeps the match.
-use Rattle.std.specs.Prelude.{◌≡◌, List, [], ◌∷◌, ℕ, ◌<◌, leb, ℤ}
+use Rattle.std.specs.Prelude.{◌≡◌, List, [], ◌∷◌, ℕ, ◌<◌, leb, ℤ, None}
 use Rattle.encoder.specs.{capacity_of, WrongTurn, when, refusal_on}
 use Rattle.encoder.proofs.{before-none}
 use Rattle.sensor.specs.{step_refusal}
@@ -18,9 +18,9 @@ abbrev at : Device → First → Axis
 at d first = fresh d.plate d.parameters (started (force d) (first_raw d first))
 
 abbrev Begun : Device → First → Type 0
-Begun d first = (refusal_on d.plate d.parameters ≡ 0) × (first_raw d first < capacity_of d.plate) × ((begin d.plate d.parameters first).axis ≡ at d first)
+Begun d first = (refusal_on d.plate d.parameters ≡ None) × (first_raw d first < capacity_of d.plate) × ((begin d.plate d.parameters first).axis ≡ at d first)
 
-begun : (d : Device) (first : First) → start_by d first ≡ 0 → Begun d first
+begun : (d : Device) (first : First) → start_by d first ≡ None → Begun d first
 unfolding start_refusal start start_raw_refusal start_raw
 begun d (first_reading step turn) none =
     let n = d.plate in

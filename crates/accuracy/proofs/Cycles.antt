@@ -1,6 +1,6 @@
 -- A cycle beside a ledger. A faulty cycle moves nothing and makes no preset. Any other accepts the raw number and then makes the preset, if the ledger
 -- says that one is made. What the ledger says is due after it, the link says too.
-use Rattle.std.specs.Prelude.{◌≡◌, refl, Bool, true, false, cond, not, ◌&&◌, List, ℕ, zero, suc, ℤ, ◌+ℤ◌}
+use Rattle.std.specs.Prelude.{◌≡◌, refl, Bool, true, false, cond, not, ◌&&◌, List, ℕ, zero, suc, ℤ, ◌+ℤ◌, Option, None, Some}
 use Rattle.std.proofs.Common.{arith, ne_eqb}
 use Rattle.std.proofs.Math.Bool.{and-true}
 use Rattle.axis_shaft.specs.{move_refusal, moved_to}
@@ -66,18 +66,18 @@ preset-by : (s : State) (p : ℕ) (g : ℤ) → Limits s.axis → Keeps s p g �
 preset-by s p g lim k v relative true = (stands-preset s p g lim v relative, puts-by s p g lim v relative)
 preset-by s p g lim k v relative false = (record { device = refl; ledger = refl; kept = k }, tt)
 
--- ---- the cycle, by the number by which its raw number would be refused
+-- ---- the cycle, by what would refuse its raw number
 module _ (s : State) (p : ℕ) (g : ℤ) (lim : Limits s.axis) (k : Keeps s p g) (raw : ℕ) (output : List ℕ) (m : ℕ → ℤ) where
-  abbrev deed_by : ℕ → Deed
+  abbrev deed_by : Option Refusal → Deed
   deed_by n = exchanged_by (device_of s.axis) (ledger_of s p g) raw output n
 
-  pub cycle-by : (n : ℕ) → move_refusal (rules_on s.axis) s.axis.shaft.last.0 raw ≡ n
+  pub cycle-by : (n : Option Refusal) → move_refusal (rules_on s.axis) s.axis.shaft.last.0 raw ≡ n
       → Supposed (device_of s.axis) s.axis.shaft.last.0 (deed_by n).numbers m → Done s (ledger_of s p g) m (deed_by n) (left s raw output)
   unfolding Supposed with_readings read_singly faulty_at taken_at at_raw moved_to rules_on
-  cycle-by zero e h =
+  cycle-by None e h =
       let a = s.axis in
       let class = class4 a.parameters in
-      let t = singly a lim raw 0 e in
+      let t = singly a lim raw None e in
       let b-limits : Limits (at_raw a raw) = rw t at (raw-kept a lim raw) in
       let j = link_after (rules_on a) a.parameters s.link false output in
       let o = reacts s output false class in
@@ -87,9 +87,9 @@ module _ (s : State) (p : ℕ) (g : ℤ) (lim : Limits s.axis) (k : Keeps s p g)
       let made-is : unmade asked ≡ not o.made = rw (same s output p g class) (unmade-by o.made o.value o.relative) in
       rw (after_is a s.link raw output, taken_at, faulty_at, t, link-is s output false asked made-is, same s output p g class)
       (record { stands = x.0; puts = rw (t, reported-is (at_raw a raw) b-limits) x.1 })
-  cycle-by (suc n) e h =
+  cycle-by (Some r) e h =
       let a = s.axis in
-      let t = singly a lim raw (suc n) e in
+      let t = singly a lim raw (Some r) e in
       let none_made = passed s output (class4 a.parameters) in
-      rw (after_is a s.link raw output, taken_at, faulty_at, t, ne_eqb (suc n) 0 (λ z. omega arith), link-is s output true none (rw none_made), none_made)
+      rw (after_is a s.link raw output, taken_at, faulty_at, t, link-is s output true none (rw none_made), none_made)
       (record { stands = record { device = refl; ledger = refl; kept = k }; puts = tt })

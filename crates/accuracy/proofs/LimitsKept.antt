@@ -1,6 +1,6 @@
 -- Every call on an acceptable axis leaves an acceptable one, and the link stays within its limits on it (request 3). So 16 never comes of records of our own
 -- making: a start gives the first ones, with a link of zeros.
-use Rattle.std.specs.Prelude.{◌≡◌, refl, true, List, [], ◌∷◌, ℕ, zero, suc}
+use Rattle.std.specs.Prelude.{◌≡◌, refl, true, List, [], ◌∷◌, ℕ, zero, suc, Option, None, Some}
 use Rattle.std.proofs.Common.{◌∙◌}
 use Rattle.sensor.specs.{raw_of}
 use Rattle.axis.specs.{Axis, acceptable, next, at_raw, read_raw_refusal, read_raw, read_refusal, read, preset_refusal, presetted, preset, holding, store}
@@ -18,9 +18,9 @@ pub record Within (s : State) : Type 0 where
   pub link : Linked s.axis s.link
 
 -- ---- a call without the link keeps the parameters, and so the limits of the link
-next-linked : (a b : Axis) (k : Link) (n : ℕ) → b.parameters ≡ a.parameters → Linked a k → Linked (next a n b).axis k
-next-linked a b k zero e h = rw e h
-next-linked a b k (suc n) e h = h
+next-linked : (a b : Axis) (k : Link) (n : Option Refusal) → b.parameters ≡ a.parameters → Linked a k → Linked (next a n b).axis k
+next-linked a b k None e h = rw e h
+next-linked a b k (Some r) e h = h
 
 after_same : (a : Axis) (raws : List ℕ) → (after a raws).parameters ≡ a.parameters
 unfolding after

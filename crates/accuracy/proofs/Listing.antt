@@ -1,6 +1,6 @@
 -- What the claim says of a program on the listing's axis, first at step 8 of turn 2, which is raw number 28: of its first call, and of another after it.
-use Rattle.std.specs.Prelude.{◌≡◌, refl, [], ◌∷◌, ℕ, ℤ}
-use Rattle.encoder.specs.{plate_refusal, fields_refusal, refusal_on}
+use Rattle.std.specs.Prelude.{◌≡◌, refl, [], ◌∷◌, ℕ, ℤ, None, Result}
+use Rattle.encoder.specs.{Refusal, plate_refusal, fields_refusal, refusal_on}
 use Rattle.sensor.specs.{step_refusal}
 use Rattle.axis_shaft.specs.{Reported}
 use Rattle.axis.specs.{start_refusal}
@@ -13,17 +13,17 @@ first = opened listing 28
 abbrev pub there : First
 there = first_reading 8 2
 
-pub started-there : start_by listing there ≡ 0
+pub started-there : start_by listing there ≡ None
 unfolding start_refusal step_refusal refusal_on plate_refusal fields_refusal
 started-there = refl
 
 abbrev pub begun : (p : Program) → p.State
 begun p = p.start listing.plate listing.parameters there
 
-abbrev pub then : Program → Call → Reported
+abbrev pub then : Program → Call → Result Reported Refusal
 then p c = p.position (p.call (begun p) c)
 
-abbrev pub twice : Program → Call → Call → Reported
+abbrev pub twice : Program → Call → Call → Result Reported Refusal
 twice p c e = p.position (p.call (p.call (begun p) c) e)
 
 abbrev pub steady : ℤ → ℕ → ℤ

@@ -1,9 +1,9 @@
--- The ledger's table is that of the calls: an axis and a link within their limits do not get 16, and each call answers the number that the ledger works out from
+-- The ledger's table is that of the calls: an axis and a link within their limits do not get 16, and each call answers the refusal that the ledger works out from
 -- the arguments; at 0 it goes where its rule says.
-use Rattle.std.specs.Prelude.{◌≡◌, refl, List, ◌++◌, ℕ, zero, suc, ℤ}
+use Rattle.std.specs.Prelude.{◌≡◌, refl, List, ◌++◌, ℕ, zero, suc, ℤ, Option, None, Some}
 use Rattle.integer.specs.{octets}
 use Rattle.ring.specs.{complement}
-use Rattle.encoder.specs.{answer}
+use Rattle.encoder.specs.{Refusal, answer}
 use Rattle.sensor.specs.{raw_of}
 use Rattle.axis_shaft.specs.{shaft_refusal}
 use Rattle.axis_shaft.proofs.{read-refusal}
@@ -30,16 +30,16 @@ goes s (storing v) = onward s (holding s.axis v)
 goes s (cycling raw output input) = left s raw output
 goes s (measuring raw elapsed output input) = left s raw output
 
--- a function of an answer is an answer by the same number
-through : {A B : Type 0} (f : A → B) (r : ℕ → A) (t : A) (n : ℕ) → f (answer r t n) ≡ answer (λ (i : ℕ). f (r i)) (f t) n
-through f r t zero = refl
-through f r t (suc n) = refl
+-- a function of an answer is an answer by the same refusal
+through : {A B : Type 0} (f : A → B) (r : Refusal → A) (t : A) (n : Option Refusal) → f (answer r t n) ≡ answer (λ (i : Refusal). f (r i)) (f t) n
+through f r t None = refl
+through f r t (Some i) = refl
 
 module _ (s : State) (p : ℕ) (g : ℤ) (limits : Within s) where
   abbrev lim : Limits s.axis
   lim = limits.axis
 
-  link-none : link_refusal (life s.axis.parameters) s.link ≡ 0
+  link-none : link_refusal (life s.axis.parameters) s.link ≡ None
   unfolding link_refusal
   link-none = rw limits.link
 
@@ -62,10 +62,10 @@ module _ (s : State) (p : ℕ) (g : ℤ) (limits : Within s) where
   unfolding cycle83_refusal
   cycle83-is raw elapsed output input = rw (limits-none s.axis lim, link-none)
 
-  by_next : (n : ℕ) (b : Axis) → to s (next s.axis n b) ≡ answer (λ (i : ℕ). s) (onward s b) n
+  by_next : (n : Option Refusal) (b : Axis) → to s (next s.axis n b) ≡ answer (λ (i : Refusal). s) (onward s b) n
   by_next n b = through (to s) (refused s.axis) (accepted b) n
 
-  pub settled : (c : Call) → yields s c ≡ answer (λ (i : ℕ). s) (goes s c) (number c)
+  pub settled : (c : Call) → yields s c ≡ answer (λ (i : Refusal). s) (goes s c) (number c)
   unfolding read read_refusal read_raw read_raw_refusal batch preset store preset_refusal cycle cycle83 rules_on
   settled (reading step turn) = rw (limits-none s.axis lim, read_is (raw_of s.axis.nameplate step turn)) (by_next (number (reading step turn)) _)
   settled (raw_reading raw) = rw (limits-none s.axis lim, read_is raw) (by_next (number (raw_reading raw)) _)
@@ -78,16 +78,16 @@ module _ (s : State) (p : ℕ) (g : ℤ) (limits : Within s) where
       rw (cycle83-is raw elapsed output input) (through both (kept s.axis s.link) (done _ _) (number (measuring raw elapsed output input)))
 
   -- the lent buffers of accepted calls
-  pub list-is : (raws positions : List ℕ) → number (batching raws positions) ≡ 0 → batch_list s.axis raws positions ≡ positions_of s.axis raws
+  pub list-is : (raws positions : List ℕ) → number (batching raws positions) ≡ None → batch_list s.axis raws positions ≡ positions_of s.axis raws
   unfolding batch_list
   list-is raws positions e = rw (batch-is raws positions, e)
 
-  pub input-is : (raw : ℕ) (output input : List ℕ) → number (cycling raw output input) ≡ 0 → let b = yields s (cycling raw output input) in
+  pub input-is : (raw : ℕ) (output input : List ℕ) → number (cycling raw output input) ≡ None → let b = yields s (cycling raw output input) in
       cycle_input s.axis s.link raw output input ≡ input_of b.link b.axis output
   unfolding cycle_input cycle
   input-is raw output input e = rw (cycle-is raw output input, e)
 
-  pub input83-is : (raw elapsed : ℕ) (output input : List ℕ) → number (measuring raw elapsed output input) ≡ 0 → let b = yields s (measuring raw elapsed output input) in
+  pub input83-is : (raw elapsed : ℕ) (output input : List ℕ) → number (measuring raw elapsed output input) ≡ None → let b = yields s (measuring raw elapsed output input) in
       cycle83_input s.axis s.link raw elapsed output input
       ≡ input_of b.link b.axis output ++ octets 4 (complement (nist_b s.axis raw elapsed))
   unfolding cycle83_input cycle83 input83

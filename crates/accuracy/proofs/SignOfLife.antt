@@ -1,7 +1,7 @@
 -- The claim sees the master's sign of life (request 3): a program that is ours but forgets it breaks the claim at its second cycle. The first brings 1, which is
 -- the start; the second brings 5 where 2 is expected, and a rise of bit 12. The counter reaches its stop, so 0F02h is held and no preset is made: exact is 8.4,
 -- which on the ring of 7 is 1.4, and not 0.
-use Rattle.std.specs.Prelude.{◌≡◌, refl, [], ◌∷◌, pos}
+use Rattle.std.specs.Prelude.{◌≡◌, refl, [], ◌∷◌, pos, None}
 use Rattle.std.proofs.Common.{arith}
 use Rattle.integer.specs.{◌modulo◌, big_endian}
 use Rattle.ring.specs.{in_range}
@@ -31,7 +31,7 @@ fails = cycling 2 (o 0x54 0 0x10 0) (o12 0 0 0 0)
 abbrev second : (p : Program) → p.State
 second p = p.call (p.call (p.start device.plate device.parameters there) begins) fails
 
-started-there : start_by device there ≡ 0
+started-there : start_by device there ≡ None
 unfolding start_refusal step_refusal refusal_on plate_refusal fields_refusal
 started-there = refl
 

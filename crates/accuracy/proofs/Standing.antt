@@ -1,6 +1,6 @@
 -- A state of the library beside a ledger. The state holds the device and all of the ledger but p and g, so that what is kept is one equation. Accepted
 -- raw numbers keep it, one or many.
-use Rattle.std.specs.Prelude.{◌≡◌, refl, List, [], ◌∷◌, ℕ, suc, ℤ, ◌+ℤ◌}
+use Rattle.std.specs.Prelude.{◌≡◌, refl, List, [], ◌∷◌, ℕ, suc, ℤ, ◌+ℤ◌, None}
 use Rattle.encoder.proofs.{before-none}
 use Rattle.axis_shaft.specs.{move_refusal, moved_to, refusal_in}
 use Rattle.axis.specs.{Axis, rules_on, position_of, reported, at_raw}
@@ -56,7 +56,7 @@ pub record Done (s : State) (l : Ledger) (m : ℕ → ℤ) (did : Deed) (b : Sta
 -- ---- raw numbers one after the other: where they lead, and the position at each
 pub walked : (s : State) (p : ℕ) (g : ℤ) (raws : List ℕ) (m : ℕ → ℤ) → Limits s.axis → Keeps s p g
     → let d = device_of s.axis in let l = ledger_of s p g in
-    refusal_in (force d) l.last raws ≡ 0 → Supposed d l.last raws m
+    refusal_in (force d) l.last raws ≡ None → Supposed d l.last raws m
     → Matches d (onward s (after s.axis raws)) (with_readings l raws m) × Entries d l raws m (positions_of s.axis raws)
 unfolding refusal_in Supposed after positions_of with_readings Entries rules_on at_raw moved_to
 walked s p g [] m lim k none h = (record { device = refl; ledger = refl; kept = k }, tt)

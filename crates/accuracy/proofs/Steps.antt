@@ -1,8 +1,8 @@
 -- One call beside a ledger: the state after it matches the ledger after it, a preset puts the position where rule 6 says, and each position in a lent
 -- buffer agrees with the ledger at its own moment. One case for each kind of call.
-use Rattle.std.specs.Prelude.{◌≡◌, refl, not, List, [], ◌++◌, ℕ, zero, suc, eqb, ℤ, length}
+use Rattle.std.specs.Prelude.{◌≡◌, refl, not, List, [], ◌++◌, ℕ, zero, suc, eqb, ℤ, length, Option, None, Some}
 use Rattle.std.proofs.Common.{append-nil}
-use Rattle.encoder.specs.{WrongBuffer, when, answer}
+use Rattle.encoder.specs.{Refusal, WrongBuffer, when, answer}
 use Rattle.encoder.proofs.{before-none}
 use Rattle.sensor.specs.{raw_of}
 use Rattle.axis_shaft.specs.{move_refusal, refusal_in}
@@ -27,13 +27,13 @@ module _ (s : State) (p : ℕ) (g : ℤ) (limits : Within s) (k : Keeps s p g) (
   l = ledger_of s p g
 
   -- ---- an accepted call
-  batch-done : (raws positions : List ℕ) → refusal_by d l (batching raws positions) ≡ 0 → Supposed d l.last raws m
+  batch-done : (raws positions : List ℕ) → refusal_by d l (batching raws positions) ≡ None → Supposed d l.last raws m
       → Matches d (onward s (after s.axis raws)) (with_readings l raws m) × Entries d l raws m (positions_of s.axis raws)
   batch-done raws positions e h =
       let lengths = when (not (eqb (length raws) (length positions))) WrongBuffer in
       walked s p g raws m lim k (before-none lengths (refusal_in (force d) l.last raws) e).1 h
 
-  taken : (c : Call) → refusal_by d l c ≡ 0 → Supposed d l.last (does d l c).numbers m → Done s l m (does d l c) (goes s c)
+  taken : (c : Call) → refusal_by d l c ≡ None → Supposed d l.last (does d l c).numbers m → Done s l m (does d l c) (goes s c)
   unfolding Supposed with_readings read_singly rules_on
   taken (reading step turn) e h = record { stands = stands-moved s p g lim k (raw_of s.axis.nameplate step turn) m h.0; puts = tt }
   taken (raw_reading raw) e h = record { stands = stands-moved s p g lim k raw m h.0; puts = tt }
@@ -45,22 +45,22 @@ module _ (s : State) (p : ℕ) (g : ℤ) (limits : Within s) (k : Keeps s p g) (
   taken (measuring raw elapsed output input) e h = cycle-by s p g lim k raw output m (move_refusal (force d) l.last raw) refl h
 
   -- ---- a refused call does nothing
-  by_number : (c : Call) (n : ℕ) → refusal_by d l c ≡ n → Supposed d l.last (answer (λ (i : ℕ). moves l []) (does d l c) n).numbers m
-      → Done s l m (answer (λ (i : ℕ). moves l []) (does d l c) n) (answer (λ (i : ℕ). s) (goes s c) n)
+  by_refusal : (c : Call) (n : Option Refusal) → refusal_by d l c ≡ n → Supposed d l.last (answer (λ (i : Refusal). moves l []) (does d l c) n).numbers m
+      → Done s l m (answer (λ (i : Refusal). moves l []) (does d l c) n) (answer (λ (i : Refusal). s) (goes s c) n)
   unfolding with_readings
-  by_number c zero e h = taken c e h
-  by_number c (suc n) e h = record { stands = record { device = refl; ledger = refl; kept = k }; puts = tt }
+  by_refusal c None e h = taken c e h
+  by_refusal c (Some r) e h = record { stands = record { device = refl; ledger = refl; kept = k }; puts = tt }
 
   pub done : (c : Call) → Supposed d l.last (deed d l c).numbers m → Done s l m (deed d l c) (yields s c)
-  done c h = rw (settled s p g limits c) (by_number c (refusal_by d l c) refl h)
+  done c h = rw (settled s p g limits c) (by_refusal c (refusal_by d l c) refl h)
 
   -- ---- the lent buffers
-  entries_by : (raws positions : List ℕ) (n : ℕ) → refusal_by d l (batching raws positions) ≡ n
-      → Supposed d l.last (answer (λ (i : ℕ). moves l []) (moves l raws) n).numbers m
-      → Entries d l (answer (λ (i : ℕ). moves l []) (moves l raws) n).numbers m (batch_list s.axis raws positions)
+  entries_by : (raws positions : List ℕ) (n : Option Refusal) → refusal_by d l (batching raws positions) ≡ n
+      → Supposed d l.last (answer (λ (i : Refusal). moves l []) (moves l raws) n).numbers m
+      → Entries d l (answer (λ (i : Refusal). moves l []) (moves l raws) n).numbers m (batch_list s.axis raws positions)
   unfolding Entries
-  entries_by raws positions zero e h = rw (list-is s p g limits raws positions e) (batch-done raws positions e h).1
-  entries_by raws positions (suc n) e h = tt
+  entries_by raws positions None e h = rw (list-is s p g limits raws positions e) (batch-done raws positions e h).1
+  entries_by raws positions (Some r) e h = tt
 
   -- in the input of a cycle, by the state after it
   shows : (c : Call) → Supposed d l.last (deed d l c).numbers m → (output more : List ℕ) → let b = yields s c in

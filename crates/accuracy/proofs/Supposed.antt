@@ -1,6 +1,6 @@
 -- What is supposed of the true steps says just this: they are the d of rule 3. So an accepted reading moves the axis by the true steps; and what is
 -- supposed can be met, for every raw number that is accepted.
-use Rattle.std.specs.Prelude.{◌≡◌, List, [], ◌∷◌, ℕ, zero, suc, ◌+◌, ◌*◌, ℤ, pos, ◌-ℤ◌, ◌*ℤ◌}
+use Rattle.std.specs.Prelude.{◌≡◌, List, [], ◌∷◌, ℕ, zero, suc, ◌+◌, ◌*◌, ℤ, pos, ◌-ℤ◌, ◌*ℤ◌, None}
 use Rattle.std.proofs.Common.{ap}
 use Rattle.integer.proofs.{above, below, signed, add_is, diff_is, mul_is, of_eq, modulo-has, modulo-alike}
 use Rattle.encoder.specs.{Sound}
@@ -29,7 +29,7 @@ module _ (d : Device) (s : Sound (force d)) where
       shorter-only f last raw m (omega (signed, h.small)) e
 
   -- and the shorter way is as supposed
-  found : (last raw : ℕ) → move_refusal (force d) last raw ≡ 0 → TrueSteps d last raw (move_of (force d) last raw)
+  found : (last raw : ℕ) → move_refusal (force d) last raw ≡ None → TrueSteps d last raw (move_of (force d) last raw)
   unfolding difference
   found last raw e =
       let f = force d in
@@ -43,7 +43,7 @@ module _ (d : Device) (s : Sound (force d)) where
       let i = ap (λ (k : ℕ). k * c) (diff_is (pos (p.1 + q.0)) (pos (p.0 + q.1))) in
       record { small = omega (signed, w.0); times = t; same = omega (signed, add_is y (t *ℤ pos c), mul_is t (pos c), p.2, q.2, w.1) }
 
-  pub met : (last : ℕ) (raws : List ℕ) → refusal_in (force d) last raws ≡ 0 → Supposed d last raws (steps d last raws)
+  pub met : (last : ℕ) (raws : List ℕ) → refusal_in (force d) last raws ≡ None → Supposed d last raws (steps d last raws)
   unfolding refusal_in Supposed
   met last [] none = tt
   met last (raw ∷ raws) none =

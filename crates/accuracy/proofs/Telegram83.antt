@@ -1,6 +1,6 @@
 -- The claim sees the octets of telegram 83: a program that is ours but for their order breaks it at its first such cycle. G1_XIST1 would then be read
 -- out of the status words 0200h 2000h, which on the ring of 7 are 4; exact is 8.4, which is 1.4.
-use Rattle.std.specs.Prelude.{◌≡◌, refl, [], ◌∷◌, ◌++◌, pos}
+use Rattle.std.specs.Prelude.{◌≡◌, refl, [], ◌∷◌, ◌++◌, pos, None}
 use Rattle.std.proofs.Common.{arith}
 use Rattle.integer.specs.{◌modulo◌, clamp, big_endian, octets}
 use Rattle.ring.specs.{in_range, complement}
@@ -29,7 +29,7 @@ measures = measuring 2 1 (o 4 0 0 0) (o 0 0 0 0 ++ o 0 0 0 0 ++ o 0 0 0 0 ++ o 0
 abbrev first : (p : Program) → p.State
 first p = p.start device.plate device.parameters there
 
-started-there : start_by device there ≡ 0
+started-there : start_by device there ≡ None
 unfolding start_refusal step_refusal refusal_on plate_refusal fields_refusal
 started-there = refl
 

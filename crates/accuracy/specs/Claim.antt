@@ -17,10 +17,10 @@
 -- that a preset is due. One that forgets the master's sign of life makes a preset while 0F02h should be held. A program that copies the first position of a batch on breaks the claim at the second entry, one that scales the raw number afresh
 -- breaks it when the sensor begins again, and one that adds rounded moves when the parts cut off come to a unit. Worthless.antt in proofs/ refutes each of
 -- these, and Accuracy.antt proves the claim of ours.
-use Rattle.std.specs.Prelude.{◌≡◌, true, false, List, [], ◌∷◌, ℕ, suc, ◌*◌, ◌<◌, ℤ, pos, neg_ℤ, nat_abs, ◌+ℤ◌, ◌-ℤ◌, ◌*ℤ◌, ◌<ℤ◌}
+use Rattle.std.specs.Prelude.{◌≡◌, true, false, List, [], ◌∷◌, ℕ, suc, ◌*◌, ◌<◌, ℤ, pos, neg_ℤ, nat_abs, ◌+ℤ◌, ◌-ℤ◌, ◌*ℤ◌, ◌<ℤ◌, None, Result, Ok, Err}
 use Rattle.integer.specs.{bit, ◌modulo◌, part, big_endian}
-use Rattle.encoder.specs.{Nameplate, Parameters, fields_of}
-use Rattle.axis_shaft.specs.{oriented, Reported, At, declared.Reported.TheVariants.Refused}
+use Rattle.encoder.specs.{Nameplate, Parameters, Refusal, fields_of}
+use Rattle.axis_shaft.specs.{oriented, Reported}
 use Rattle.cyclic.specs.{class4}
 use Rattle.accuracy.specs.Calls.{First, Call, reading, raw_reading, batching, presetting, storing, cycling, measuring}
 use Rattle.accuracy.specs.Ledger.{Device, force, Ledger, start_by, first_raw, opened, refusal_by, Preset, none, made, deed, with_readings, noted}
@@ -30,7 +30,7 @@ pub record Program : Type 1 where
   pub State : Type 0
   pub start : Nameplate → Parameters → First → State
   pub call : State → Call → State
-  pub position : State → Reported
+  pub position : State → Result Reported Refusal
   pub lent : State → Call → List ℕ
 
 -- a call, and the true steps before each raw number that is accepted in it, which the program is not told
@@ -60,13 +60,13 @@ pub record Agrees (d : Device) (l : Ledger) (reported : ℕ) : Type 0 where
   pub high : off d l reported w <ℤ pos (force d).steps.0
 
 -- ---- reported: the position after start and each call; a refusal is none
-abbrev pub number : Reported → ℕ
-number (At position unshifted) = position.0
-number (Refused n) = 0
+abbrev pub number : Result Reported Refusal → ℕ
+number (Ok at) = at.position.0
+number (Err r) = 0
 
-abbrev pub Reports : Device → Ledger → Reported → Type 0
-Reports d l (At position unshifted) = Agrees d l position.0
-Reports d l (Refused n) = ⊥
+abbrev pub Reports : Device → Ledger → Result Reported Refusal → Type 0
+Reports d l (Ok at) = Agrees d l at.position.0
+Reports d l (Err r) = ⊥
 
 -- in each entry of a batch, at its own moment
 unfoldable pub Entries : Device → Ledger → List ℕ → (ℕ → ℤ) → List ℕ → Type 0
@@ -84,8 +84,8 @@ pub record Shown (d : Device) (l : Ledger) (input : List ℕ) : Type 0 where
 
 abbrev pub Lent : Device → Ledger → Call → (ℕ → ℤ) → Ledger → List ℕ → Type 0
 Lent d l (batching raws positions) m after lent = Entries d l (deed d l (batching raws positions)).numbers m lent
-Lent d l (cycling raw output input) m after lent = refusal_by d l (cycling raw output input) ≡ 0 → Shown d after lent
-Lent d l (measuring raw elapsed output input) m after lent = refusal_by d l (measuring raw elapsed output input) ≡ 0 → Shown d after lent
+Lent d l (cycling raw output input) m after lent = refusal_by d l (cycling raw output input) ≡ None → Shown d after lent
+Lent d l (measuring raw elapsed output input) m after lent = refusal_by d l (measuring raw elapsed output input) ≡ None → Shown d after lent
 Lent d l (reading step turn) m after lent = Unit
 Lent d l (raw_reading raw) m after lent = Unit
 Lent d l (presetting v relative) m after lent = Unit
@@ -120,5 +120,5 @@ Accurate d p a l (e ∷ es) =
 -- from any accepted start, over every list of calls
 abbrev pub Claim : Program → Type 0
 Claim p =
-    (d : Device) (first : First) → start_by d first ≡ 0 → (es : List Event)
+    (d : Device) (first : First) → start_by d first ≡ None → (es : List Event)
     → Accurate d p (p.start d.plate d.parameters first) (opened d (first_raw d first)) es

@@ -1,8 +1,8 @@
 -- The ledger (document 01, "The distance rule", its second paragraph). It is fed the arguments of the calls, the true steps m beside each
 -- accepted raw number, and one answer, the position just after a preset. By the table of refusals and the rules it settles what is accepted and whether a
 -- preset is made: it keeps the last accepted raw number, the held preset value and the link state itself, and never looks at an axis record.
-use Rattle.std.specs.Prelude.{Bool, true, false, cond, not, ◌&&◌, ◌||◌, List, [], ◌∷◌, ℕ, suc, eqb, ltb, ℤ, pos, ◌+ℤ◌, length}
-use Rattle.encoder.specs.{Nameplate, Parameters, InForce, WrongBuffer, when, ◌before◌, answer, fields_of, rules_of}
+use Rattle.std.specs.Prelude.{Bool, true, false, cond, not, ◌&&◌, ◌||◌, List, [], ◌∷◌, ℕ, suc, eqb, ltb, ℤ, pos, ◌+ℤ◌, length, Option, is_some}
+use Rattle.encoder.specs.{Nameplate, Parameters, InForce, Refusal, WrongBuffer, when, ◌before◌, answer, fields_of, rules_of}
 use Rattle.sensor.specs.{raw_of, step_refusal}
 use Rattle.axis_shaft.specs.{oriented, move_refusal, refusal_in}
 use Rattle.axis_offset.specs.{value_refusal}
@@ -30,8 +30,8 @@ pub record Ledger : Type 0 where
   pub stored : ℤ
   pub link : Link
 
--- the number by which a start is refused, 0 where it is taken; and its raw number
-abbrev pub start_by : Device → First → ℕ
+-- the refusal of a start; and its raw number
+abbrev pub start_by : Device → First → Option Refusal
 start_by d (first_reading step turn) = start_refusal d.plate d.parameters step turn
 start_by d (first_number raw) = start_raw_refusal d.plate d.parameters raw
 
@@ -43,9 +43,9 @@ first_raw d (first_number raw) = raw
 abbrev pub opened : Device → ℕ → Ledger
 opened d raw = record { base = 0; travel = pos (oriented (force d) raw); last = raw; stored = pos 0; link = quiet }
 
--- ---- by the table: the number by which a call is refused, 0 where it is taken. There is no row 16: the axis was started, its link was 0 then, and
+-- ---- by the table: the refusal of a call. There is no row 16: the axis was started, its link was 0 then, and
 -- nothing but its own calls writes the two
-abbrev pub refusal_by : Device → Ledger → Call → ℕ
+abbrev pub refusal_by : Device → Ledger → Call → Option Refusal
 refusal_by d l (reading step turn) =
     step_refusal d.plate step turn before move_refusal (force d) l.last (raw_of d.plate step turn)
 refusal_by d l (raw_reading raw) = move_refusal (force d) l.last raw
@@ -117,15 +117,15 @@ with_due k due =
       code = k.code;
     }
 
--- a cycle, of telegram 83 as of telegram 81 and of class 2, by the number that would refuse its raw number: a faulty one accepts none and makes no preset
-abbrev pub exchanged_by : Device → Ledger → ℕ → List ℕ → ℕ → Deed
+-- a cycle, of telegram 83 as of telegram 81 and of class 2, by what would refuse its raw number: a faulty one accepts none and makes no preset
+abbrev pub exchanged_by : Device → Ledger → ℕ → List ℕ → Option Refusal → Deed
 exchanged_by d l raw output refusal =
     let o = answer (λ _. none) (cycle_preset d l output) refusal in
     record {
       numbers = answer (λ _. []) (raw ∷ []) refusal;
       preset = o;
       stored = l.stored;
-      link = with_due (link_after (force d) d.parameters l.link (not (eqb refusal 0)) output) (due_after (class4 d.parameters) l.link output o);
+      link = with_due (link_after (force d) d.parameters l.link (is_some refusal) output) (due_after (class4 d.parameters) l.link output o);
     }
 
 abbrev pub exchanges : Device → Ledger → ℕ → List ℕ → Deed

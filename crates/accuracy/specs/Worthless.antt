@@ -1,9 +1,10 @@
 -- Programs that document 01 would send back ("Programs we would send back", "Traps on the bench"), each as ours but for one thing. Each breaks the
 -- claim: proofs/Worthless.antt, for the octets of telegram 83 proofs/Telegram83.antt, and for the sign of life proofs/SignOfLife.antt.
-use Rattle.std.specs.Prelude.{Bool, false, cond, List, ◌++◌, ℕ, ◌*◌, ◌/◌, ◌%◌, eqb, pos, ◌+ℤ◌, ◌-ℤ◌, ◌*ℤ◌, length, get_or, take, drop, replicate}
+use Rattle.std.specs.Prelude.{Bool, false, cond, List, ◌++◌, ℕ, ◌*◌, ◌/◌, ◌%◌, eqb, pos, ◌+ℤ◌, ◌-ℤ◌, ◌*ℤ◌, length, get_or, take, drop, replicate, Result, Ok}
 use Rattle.std.specs.Int.Signed.{quot_z}
 use Rattle.integer.specs.{◌modulo◌}
-use Rattle.axis_shaft.specs.{oriented, move_of, Reported, At}
+use Rattle.axis_shaft.specs.{oriented, move_of, Reported}
+use Rattle.encoder.specs.{Refusal}
 use Rattle.axis.specs.{Axis, rules_on, unshifted_of, position_of, reported, with_shaft}
 use Rattle.cyclic_link.specs.{Link, counting, quiet}
 use Rattle.cyclic.specs.{faulty_at}
@@ -11,10 +12,10 @@ use Rattle.accuracy.specs.{Calls.Call, Calls.reading, Calls.raw_reading, Calls.b
 use Rattle.accuracy.specs.{Run.State, Run.begin, Run.yields, Run.lent_by}
 
 -- ---- another answer for the position
-abbrev pub at : ℕ → ℕ → Reported
-at position unshifted = At (record { 0 = position }) (record { 0 = unshifted })
+abbrev pub at : ℕ → ℕ → Result Reported Refusal
+at position unshifted = Ok (record { position = record { 0 = position }; unshifted = record { 0 = unshifted } })
 
-abbrev pub answers : (Axis → Reported) → Program
+abbrev pub answers : (Axis → Result Reported Refusal) → Program
 answers position = record { State = State; start = begin; call = yields; position = λ s. position s.axis; lent = lent_by }
 
 abbrev pub always0 : Program

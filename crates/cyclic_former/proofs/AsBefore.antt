@@ -1,10 +1,10 @@
 -- Request 3: with block bit 5 at 1 and on a class 2 axis nothing else changes. On an axis without a sign of life, from a link within its limits, a cycle of
 -- either telegram answers, and leaves in axis, input and the rest of the link, what the former rules say, refused calls included, and also where block octet
 -- 10 is 0. Part by part (Parts.antt); only the limits of the link are asked for besides, and they hold.
-use Rattle.std.specs.Prelude.{◌≡◌, refl, false, List, ◌++◌, ℕ, zero, suc, length}
+use Rattle.std.specs.Prelude.{◌≡◌, refl, false, List, ◌++◌, ℕ, Option, None, Some, length}
 use Rattle.integer.specs.{octets}
 use Rattle.ring.specs.{complement}
-use Rattle.encoder.specs.{◌before◌, answer, fields_of, sign_of_life}
+use Rattle.encoder.specs.{Refusal, ◌before◌, answer, fields_of, sign_of_life}
 use Rattle.axis.specs.{Axis, rules_on, axis_refusal}
 use Rattle.cyclic_link.specs.{Link, life_of, link_refusal, zsw}
 use Rattle.cyclic.specs.{class4, life, faulty_at, taken_at, Class4.input as input4, cycled, link_after, axis_after, input_of, link_left, input_left, length_refusal, cycle_refusal, cycle, cycle_input}
@@ -13,11 +13,11 @@ use Rattle.cyclic.proofs.{Linked, left-linked}
 use Rattle.cyclic_former.proofs.Parts.{second_is, link-by, axis-by}
 use Rattle.cyclic_former.specs.Former as Former
 
--- ---- by the number of the refusal
-known_by : (a b : Axis) (k j : Link) (input filled : List ℕ) (n : ℕ)
-    → Former.known (cycled a k b j n) (answer (λ (i : ℕ). input) filled n) ≡ Former.cycled a (Former.rest k) input b (Former.rest j) filled n
-known_by a b k j input filled zero = refl
-known_by a b k j input filled (suc n) = refl
+-- ---- by the refusal
+known_by : (a b : Axis) (k j : Link) (input filled : List ℕ) (n : Option Refusal)
+    → Former.known (cycled a k b j n) (answer (λ (r : Refusal). input) filled n) ≡ Former.cycled a (Former.rest k) input b (Former.rest j) filled n
+known_by a b k j input filled None = refl
+known_by a b k j input filled (Some r) = refl
 
 module _ (a : Axis) (k : Link) (none : sign_of_life (fields_of a.parameters) ≡ false) (limits : Linked a k) where
   off : (life a.parameters).on ≡ false

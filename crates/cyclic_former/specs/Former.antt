@@ -1,9 +1,9 @@
 -- One cycle by the rules before request 3: document 01, "One cycle", with requests 1 and 2, as they stood. The link has neither sign of life nor code, and no
 -- limits; G1_XIST2 is 0001h while an error is held.
-use Rattle.std.specs.Prelude.{ℕ, ◌+◌, Bool, false, cond, not, ◌&&◌, ◌||◌, List, ◌++◌, ltb, pos, length}
+use Rattle.std.specs.Prelude.{ℕ, ◌+◌, Bool, false, cond, not, ◌&&◌, ◌||◌, List, ◌++◌, ltb, pos, length, Option, None, Some}
 use Rattle.integer.specs.{at, octets}
 use Rattle.ring.specs.{complement}
-use Rattle.encoder.specs.{Parameters, InForce, ◌before◌, answer}
+use Rattle.encoder.specs.{Parameters, InForce, Refusal, ◌before◌, answer}
 use Rattle.axis.specs.{Axis, rules_on, axis_refusal, position_of}
 use Rattle.cyclic_link.specs.{Link}
 use Rattle.cyclic.specs.{Cycled as Now, faulty_at, taken_at, preset_by, word_of, counted, words, xist1, class4, length_refusal, nist_b, refusal83, Class2.input as input2}
@@ -97,16 +97,16 @@ link_left a k raw output = link_after (rules_on a) a.parameters k (faulty_at a r
 abbrev pub input_left : Axis → FormerLink → ℕ → List ℕ → List ℕ
 input_left a k raw output = input_of (link_left a k raw output) (axis_after a k raw output) output
 
--- ---- the calls: next axis, next link, the number of the refusal, and the lent input octets. Refused, they are kept
+-- ---- the calls: next axis, next link, the refusal, and the lent input octets. Refused, they are kept
 pub record Cycled : Type 0 where
   pub axis : Axis
   pub link : FormerLink
-  pub refusal : ℕ
+  pub refusal : Option Refusal
   pub input : List ℕ
 
-abbrev pub cycled : Axis → FormerLink → List ℕ → Axis → FormerLink → List ℕ → ℕ → Cycled
+abbrev pub cycled : Axis → FormerLink → List ℕ → Axis → FormerLink → List ℕ → Option Refusal → Cycled
 cycled a k input b j filled n =
-    answer (λ (i : ℕ). record { axis = a; link = k; refusal = i; input = input }) (record { axis = b; link = j; refusal = 0; input = filled }) n
+    answer (λ (r : Refusal). record { axis = a; link = k; refusal = Some r; input = input }) (record { axis = b; link = j; refusal = None; input = filled }) n
 
 -- an answer of today and the input octets beside it, as the former rules know them
 abbrev pub known : Now → List ℕ → Cycled
