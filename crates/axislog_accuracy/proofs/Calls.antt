@@ -1,6 +1,6 @@
 -- A reading and a preset on a started axis. The axis is within its limits and its last raw number is the ledger's, so that a call answers the table's
 -- number. Where the table takes the call, the library's run makes the same call and goes on beside the ledger after it.
-use Rattle.std.specs.Prelude.{◌≡◌, refl, Bool, true, false, not, List, [], ◌∷◌, ℕ, ℤ}
+use Rattle.std.specs.Prelude.{◌≡◌, refl, Bool, true, false, not, List, [], ◌∷◌, ℕ, ℤ, Some}
 use Rattle.std.proofs.Common.{ap, ◌∙◌}
 use Rattle.integer.specs.{◌modulo◌}
 use Rattle.encoder.specs.{NoAxis, when, ◌before◌, answer}
@@ -66,7 +66,7 @@ module _ (d : Device) (l : Ledger) (a : Axis) (g : Going d l a) where
     read_goes raw z h =
         record { is = g.is; last = refl; accurate = goes_on (raw_reading raw) (at_raw a raw) z (rw (read_is raw, z)) (h, tt) }
 
-    pub read_done : (raw : ℕ) → Moves (due (Read raw) (kept d l)) m → Done (due (Read raw) (kept d l)) (kept d l) m (after started_state (read_raw a raw))
+    pub read_done : (raw : ℕ) → Moves (due (Some (Read raw)) (kept d l)) m → Done (due (Some (Read raw)) (kept d l)) (kept d l) m (after started_state (read_raw a raw))
     read_done raw h =
         rw (read_is raw)
         (by_next started_state (kept d l) (refl, g) m (reading d l raw) a (at_raw a raw) (refusal_by d l (raw_reading raw))
@@ -94,7 +94,7 @@ module _ (d : Device) (l : Ledger) (a : Axis) (g : Going d l a) where
           let t = stands d (put (made v false) l (number (reported to))) to preset-goes in
           rw (told_is (reported to)) ((t.0, lands), t.1)
 
-    pub preset-done : (v : ℤ) → Done (due (Preset v) (kept d l)) (kept d l) m (after started_state (preset_on a v false))
+    pub preset-done : (v : ℤ) → Done (due (Some (Preset v)) (kept d l)) (kept d l) m (after started_state (preset_on a v false))
     preset-done v =
         rw (preset-is v)
         (by_next started_state (kept d l) (refl, g) m (preset d l v) a (presetted a v false) (refusal_by d l (presetting v false)) (preset-taken v))

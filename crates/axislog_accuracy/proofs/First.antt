@@ -1,5 +1,5 @@
 -- The first reading of an axis that waits: where the table takes it, it is a start of the library's run.
-use Rattle.std.specs.Prelude.{◌≡◌, refl, ℕ, ℤ}
+use Rattle.std.specs.Prelude.{◌≡◌, refl, ℕ, ℤ, Some}
 use Rattle.axis_shaft.specs.{nowhere, started}
 use Rattle.axis.specs.{Axis, fresh, start_raw}
 use Rattle.axis.proofs.{first as first_at}
@@ -20,7 +20,7 @@ module _ (d : Device) (raw : ℕ) where
 
 pub first_done : (a : Axis) (m : ℤ) (raw : ℕ)
     → let d = device_of a in
-    Done (due (Read raw) (waiting d)) (waiting d) m (after (record { stage = Waiting; axis = a }) (start_raw a.nameplate a.parameters raw))
+    Done (due (Some (Read raw)) (waiting d)) (waiting d) m (after (record { stage = Waiting; axis = a }) (start_raw a.nameplate a.parameters raw))
 unfolding start_raw
 first_done a m raw =
     let d = device_of a in

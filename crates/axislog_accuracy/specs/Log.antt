@@ -12,11 +12,11 @@
 --
 -- The claim is of any log program, and sees only its answer to each line. Log.antt in proofs/ proves it of axislog; Worthless.antt
 -- there refutes it of a program that refuses every line, of one that always shows 0, and of one that ignores presets.
-use Rattle.std.specs.Prelude.{◌≡◌, false, List, [], ◌∷◌, ℕ, ℤ}
+use Rattle.std.specs.Prelude.{◌≡◌, false, List, [], ◌∷◌, ℕ, ℤ, Option, Some, None}
 use Rattle.integer.specs.{◌modulo◌}
 use Rattle.encoder.specs.{NoForm, NoAxis, answer, refusal_on}
 use Rattle.accuracy.specs.{first_number, raw_reading, presetting, Device, force, Ledger.Ledger, start_by, opened, refusal_by, made, with_readings, put, TrueSteps, Agrees}
-use Rattle.axislog_forms.specs.{Setup, Form, Axis, Read, Preset, Nothing, form}
+use Rattle.axislog_forms.specs.{Setup, Form, Axis, Read, Preset, form}
 use Rattle.axislog_answers.specs.{Answer, Ready, At, Refused}
 use Rattle.axislog_state.specs.{plate_of, parameters_of}
 
@@ -50,15 +50,15 @@ pub data Due : Type 0 where
   preset : (d : Device) (l : Ledger) (v : ℤ) → Due
 
 -- by the table. An axis that waits has plate and parameters that were taken, so that a start on it is refused only by 9
-abbrev pub due : Form → Book → Due
-due Nothing b = refusal NoForm
-due (Axis f) b = answer refusal (ready (device f)) (refusal_on (plate_of f) (parameters_of f))
-due (Read raw) none = refusal NoAxis
-due (Read raw) (waiting d) = answer refusal (first d raw) (start_by d (first_number raw))
-due (Read raw) (kept d l) = answer refusal (reading d l raw) (refusal_by d l (raw_reading raw))
-due (Preset v) none = refusal NoAxis
-due (Preset v) (waiting d) = refusal NoAxis
-due (Preset v) (kept d l) = answer refusal (preset d l v) (refusal_by d l (presetting v false))
+abbrev pub due : Option Form → Book → Due
+due None b = refusal NoForm
+due (Some (Axis f)) b = answer refusal (ready (device f)) (refusal_on (plate_of f) (parameters_of f))
+due (Some (Read raw)) none = refusal NoAxis
+due (Some (Read raw)) (waiting d) = answer refusal (first d raw) (start_by d (first_number raw))
+due (Some (Read raw)) (kept d l) = answer refusal (reading d l raw) (refusal_by d l (raw_reading raw))
+due (Some (Preset v)) none = refusal NoAxis
+due (Some (Preset v)) (waiting d) = refusal NoAxis
+due (Some (Preset v)) (kept d l) = answer refusal (preset d l v) (refusal_by d l (presetting v false))
 
 -- ---- supposed of m, where a raw number is taken after the first
 abbrev pub Moves : Due → ℤ → Type 0

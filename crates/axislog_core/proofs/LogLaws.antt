@@ -1,5 +1,5 @@
 -- The loop over the lines of a log: what is written and the answers to come make up all answers.
-use Rattle.std.specs.Prelude.{◌≡◌, refl, List, [], ◌∷◌, ◌++◌, Bool, true, false, cond, not, ℕ, suc, ◌+◌, ◌-◌, ◌≤◌, ◌<◌}
+use Rattle.std.specs.Prelude.{◌≡◌, refl, List, [], ◌∷◌, ◌++◌, Bool, true, false, cond, not, ℕ, suc, ◌+◌, ◌-◌, ◌≤◌, ◌<◌, Option}
 use Rattle.std.proofs.Common.{sym, ap, ◌∙◌, append_assoc, append-nil, arith}
 use Rattle.std.specs.Prelude.{eqb, length, take, drop}
 use Rattle.std.proofs.Common.{length-drop, length-append, length-take, drop_of_length-le, drop-drop}
@@ -72,7 +72,7 @@ unfolding answers
 run-start input out s h s-is = record { short = h; done = []; at-is = refl; same = refl; out-is = refl; total = rw s-is }
 
 module _ (input out₀ out : List ℕ) (from at : ℕ) (s : State) (inv : Running input out₀ out from at s) where
-  module _ (end : ℕ) (h : from < length input) (end_is : end ≡ from + line_length (take (length input - from) (drop from input))) (f : Form)
+  module _ (end : ℕ) (h : from < length input) (end_is : end ≡ from + line_length (take (length input - from) (drop from input))) (f : Option Form)
       (f-is : f ≡ form (take (end - from) (drop from input))) (q : Reply) (q-is : q ≡ reply s f) where
     split : lines (drop from input) ≡ take (end - from) (drop from input) ∷ lines (drop (end + 1) input)
     split =

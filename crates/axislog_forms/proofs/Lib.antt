@@ -1,3 +1,2 @@
-pub mod FormLaws
 pub mod ShortLaws
 pub use ShortLaws.{form-empty, form-one}

@@ -4,8 +4,8 @@
 ghost use Rattle.std.specs.Prelude.{◌≡◌};
 ghost use Rattle.axislog_forms.specs.{form, read, preset, axis, sequence, scale};
 
-use axislog_lexer::number::{Decimal, labelled, last};
-use axislog_lexer::word::{Place, ends, past};
+use axislog_lexer::number::{labelled, last};
+use axislog_lexer::word::{ends, past};
 
 // What an axis form says. Without a scale form scaling is off, and both its numbers are 0.
 #[derive(Clone, Copy, PartialEq, Eq)]
@@ -24,108 +24,84 @@ pub enum Form {
     Axis(Setup),
     Read(u32),
     Preset(i64),
-    // the line is no form
-    Nothing,
 }
 
-// The form of a line without its newline.
-pub fn parse(line: &[u8]) -> Form
+// The form of a line without its newline, if it is one.
+pub fn parse(line: &[u8]) -> Option<Form>
     ensures { result ≡ form line.now }
 {
-    match past(line, 0, b"(read ") {
-        Place::At(p) => read(line, p),
-        Place::Nowhere => match past(line, 0, b"(preset ") {
-            Place::At(p) => preset(line, p),
-            Place::Nowhere => axis(line),
-        },
+    if let Some(at) = past(line, 0, b"(read ") {
+        return read(line, at);
     }
+    if let Some(at) = past(line, 0, b"(preset ") {
+        return preset(line, at);
+    }
+    axis(line)
 }
 
-fn read(line: &[u8], at: usize) -> Form
+fn read(line: &[u8], at: usize) -> Option<Form>
     ensures { result ≡ read at line.now }
 {
-    match last(line, at, b")") {
-        Decimal::Number(raw, _) => Form::Read(raw),
-        Decimal::Nothing => Form::Nothing,
-    }
+    let raw = last(line, at, b")")?;
+    Some(Form::Read(raw.value))
 }
 
 // -0 is no number.
-fn preset(line: &[u8], at: usize) -> Form
+fn preset(line: &[u8], at: usize) -> Option<Form>
     ensures { result ≡ preset at line.now }
 {
-    match past(line, at, b"-") {
-        Place::At(p) => match last(line, p, b")") {
-            Decimal::Number(value, _) => {
-                if value == 0 {
-                    return Form::Nothing;
-                }
-                Form::Preset(0 - value as i64)
-            }
-            Decimal::Nothing => Form::Nothing,
-        },
-        Place::Nowhere => match last(line, at, b")") {
-            Decimal::Number(value, _) => Form::Preset(value as i64),
-            Decimal::Nothing => Form::Nothing,
-        },
+    if let Some(behind) = past(line, at, b"-") {
+        let value = last(line, behind, b")")?.value;
+        if value == 0 {
+            return None;
+        }
+        return Some(Form::Preset(-i64::from(value)));
     }
+    let number = last(line, at, b")")?;
+    Some(Form::Preset(i64::from(number.value)))
 }
 
-fn axis(line: &[u8]) -> Form
+fn axis(line: &[u8]) -> Option<Form>
     ensures { result ≡ axis line.now }
 {
-    match labelled(line, 0, b"(axis (steps ") {
-        Decimal::Number(steps, p) => match labelled(line, p, b") (turns ") {
-            Decimal::Number(turns, q) => sequence(line, q, steps, turns),
-            Decimal::Nothing => Form::Nothing,
-        },
-        Decimal::Nothing => Form::Nothing,
-    }
+    let steps = labelled(line, 0, b"(axis (steps ")?;
+    let turns = labelled(line, steps.next, b") (turns ")?;
+    sequence(line, turns.next, steps.value, turns.value)
 }
 
-fn sequence(line: &[u8], at: usize, steps: u32, turns: u32) -> Form
+fn sequence(line: &[u8], at: usize, steps: u32, turns: u32) -> Option<Form>
     ensures { result ≡ sequence at line.now steps turns }
 {
-    match past(line, at, b") (sequence ") {
-        Place::At(p) => match past(line, p, b"cw)") {
-            Place::At(q) => scale(line, q, steps, turns, false),
-            Place::Nowhere => match past(line, p, b"ccw)") {
-                Place::At(q) => scale(line, q, steps, turns, true),
-                Place::Nowhere => Form::Nothing,
-            },
-        },
-        Place::Nowhere => Form::Nothing,
+    let word = past(line, at, b") (sequence ")?;
+    if let Some(next) = past(line, word, b"cw)") {
+        return scale(line, next, steps, turns, false);
     }
+    let next = past(line, word, b"ccw)")?;
+    scale(line, next, steps, turns, true)
 }
 
-fn scale(line: &[u8], at: usize, steps: u32, turns: u32, reversed: bool) -> Form
+fn scale(line: &[u8], at: usize, steps: u32, turns: u32, reversed: bool) -> Option<Form>
     ensures { result ≡ scale at line.now steps turns reversed }
 {
     if ends(line, at, b")") {
-        return Form::Axis(Setup {
+        return Some(Form::Axis(Setup {
             steps,
             turns,
             reversed,
             scaling: false,
             units: 0,
             range: 0,
-        });
+        }));
     }
-    match labelled(line, at, b" (scale ") {
-        Decimal::Number(units, p) => match past(line, p, b" ") {
-            Place::At(q) => match last(line, q, b"))") {
-                Decimal::Number(range, _) => Form::Axis(Setup {
-                    steps,
-                    turns,
-                    reversed,
-                    scaling: true,
-                    units,
-                    range,
-                }),
-                Decimal::Nothing => Form::Nothing,
-            },
-            Place::Nowhere => Form::Nothing,
-        },
-        Decimal::Nothing => Form::Nothing,
-    }
+    let units = labelled(line, at, b" (scale ")?;
+    let behind = past(line, units.next, b" ")?;
+    let range = last(line, behind, b"))")?;
+    Some(Form::Axis(Setup {
+        steps,
+        turns,
+        reversed,
+        scaling: true,
+        units: units.value,
+        range: range.value,
+    }))
 }

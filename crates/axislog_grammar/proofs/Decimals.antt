@@ -1,5 +1,6 @@
 -- Decimals, digit by digit: a further digit is appended, and its value determines its octet.
-use Rattle.std.specs.Prelude.{◌≡◌, refl, [], ◌∷◌, ◌++◌, Bool, true, false, cond, ℕ, zero, suc, ◌+◌, ◌*◌, ◌/◌, ◌%◌, ◌^◌, ◌≤◌, ◌<◌, ltb}
+use Rattle.std.specs.Prelude.{◌≡◌, refl, [], ◌∷◌, ◌++◌, Bool, true, false, cond, ℕ, zero, suc, ◌+◌, ◌*◌, ◌/◌, ◌%◌, ◌^◌, ◌≤◌, ◌<◌, ◌-◌, ltb, Option, Some}
+use Rattle.std.proofs.lemmas.Option.{none-some, same_Some}
 use Rattle.std.proofs.Common.{arith, lt-ltb, le-ltb, ltb-false}
 use Rattle.axislog_lexer.specs.{digit_of}
 use Rattle.axislog_answers.specs.{decimal_below, decimal}
@@ -30,8 +31,13 @@ pub decimal-one : (d : ℕ) → d ≤ 9 → decimal d ≡ (48 + d) ∷ []
 unfolding decimal decimal_below
 decimal-one d l = rw (lt-ltb d 10 (omega arith))
 
-pub octet-is : (x : ℕ) → digit_of x ≤ 9 → 48 + digit_of x ≡ x
+pub octet-is : (x d : ℕ) → digit_of x ≡ Some d → (d ≤ 9) × (48 + d ≡ x)
 unfolding digit_of
-octet-is x =
-    choose (λ d. d ≤ 9 → 48 + d ≡ x) (ltb x 48) (λ i l. absurd (omega arith)) (λ i.
-    choose (λ d. d ≤ 9 → 48 + d ≡ x) (ltb 57 x) (λ j l. absurd (omega arith)) (λ j l. omega (arith, ltb-false x 48 i)))
+octet-is x d =
+    choose Of (ltb x 48) (λ i n. absurd (none-some d n)) (λ i.
+    choose Of (ltb 57 x) (λ j n. absurd (none-some d n)) (λ j n.
+    let e = same_Some (x - 48) d n in
+    (omega (arith, ltb-false 57 x j), omega (arith, ltb-false x 48 i))))
+  where
+    Of : Option ℕ → Type 0
+    Of o = o ≡ Some d → (d ≤ 9) × (48 + d ≡ x)

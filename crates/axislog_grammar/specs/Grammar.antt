@@ -1,9 +1,9 @@
 -- How each form is written (document 01, "The program axislog"): one nested bracket form a line, single spaces, decimal without leading zeros, at
 -- most 4294967295 in size; inner forms in the order shown; the scale form may be missing.
 use Rattle.std.specs.Prelude.{◌≡◌, ◌++◌, ◌≤◌}
-use Rattle.std.specs.Prelude.{Bool, true, false, List, [], ℕ, suc, ℤ, pos, negsuc, nat_abs}
+use Rattle.std.specs.Prelude.{Bool, true, false, List, [], ℕ, suc, ℤ, pos, negsuc, nat_abs, Some}
 use Rattle.integer.specs.{ascii}
-use Rattle.axislog_forms.specs.{Setup, Form, Axis, Read, Preset, Nothing, form}
+use Rattle.axislog_forms.specs.{Setup, Form, Axis, Read, Preset, form}
 use Rattle.axislog_answers.specs.{decimal}
 
 -- a preset's value, with its sign
@@ -34,7 +34,6 @@ written (Axis s) =
     ++ ascii ")"
     ++ scaling s.scaling s
     ++ ascii ")"
-written Nothing = []
 
 -- a form with numbers of at most 4294967295; without a scale form both its numbers are 0
 abbrev pub unscaled : Bool → Setup → Type 0
@@ -52,9 +51,8 @@ abbrev pub Writable : Form → Type 0
 Writable (Read raw) = raw ≤ 4294967295
 Writable (Preset v) = nat_abs v ≤ 4294967295
 Writable (Axis s) = Sized s
-Writable Nothing = ⊥
 
 -- THE CLAIM: a line is read as a form just if it is the form as written
 pub record Exact : Type 0 where
-  pub back : (f : Form) → Writable f → form (written f) ≡ f
-  pub only : (line : List ℕ) → (form line ≡ Nothing → ⊥) → Writable (form line) × (line ≡ written (form line))
+  pub back : (f : Form) → Writable f → form (written f) ≡ Some f
+  pub only : (line : List ℕ) (f : Form) → form line ≡ Some f → Writable f × (line ≡ written f)

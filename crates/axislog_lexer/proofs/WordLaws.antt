@@ -1,43 +1,46 @@
--- A word at a position of a line, and the end of a line. The loop takes one step of `past` at each octet.
-use Rattle.std.specs.Prelude.{◌≡◌, refl, List, [], ◌∷◌, Bool, true, false, cond, ℕ, ◌+◌, ◌≤◌, ◌<◌, eqb, length, get_or, drop}
-use Rattle.std.proofs.Common.{add-one, drop_of_length-le, drop-cons}
-use Rattle.std.proofs.Common.{eq-eqb, ne_eqb}
-use Rattle.axislog_lexer.specs.{Place, At, Nowhere, past, ends}
+-- A word at a position of a line: the definition goes octet by octet, and the code compares whole texts.
+use Rattle.std.specs.Prelude.{◌≡◌, refl, List, [], ◌∷◌, Bool, true, false, cond, ℕ, ◌+◌, eqb, length, drop, Option, Some, None, unwrap_or}
+use Rattle.std.specs.List.{starts_with}
+use Rattle.std.specs.Slice.{IsGetRangeResult}
+use denote.Ref.{Bor}
+use mathlib.Core.Logic.{inl, inr}
+use Rattle.std.proofs.Common.{sym, ap, ◌∙◌, arith, eq-eqb, ne_eqb, eqb-true, drop_of_length-le, take_all, length-drop}
+use Rattle.std.proofs.lemmas.Bool.{eqb-false}
+use Rattle.axislog_lexer.specs.{past}
 
-module _ (word line : List ℕ) (i k : ℕ) (r : Place) (inv : past (drop i word) k (drop k line) ≡ r) where
-  pub past_end : length word ≤ i → At k ≡ r
-  unfolding past
-  past_end h = rw (drop_of_length-le word h) at inv
+past-is : (word text : List ℕ) (p : ℕ) → past word p text ≡ cond (starts_with eqb text word) (Some (p + length word)) None
+unfolding past
+past-is [] text p = ap Some (omega arith)
+past-is (w ∷ ws) [] p = refl
+past-is (w ∷ ws) (x ∷ xs) p = go (eqb x w) refl (past-is ws xs (p + 1))
+  where
+    go : (b : Bool) → eqb x w ≡ b → past ws (p + 1) xs ≡ cond (starts_with eqb xs ws) (Some (p + 1 + length ws)) None
+        → cond b (past ws (p + 1) xs) None ≡ cond (starts_with eqb (x ∷ xs) (w ∷ ws)) (Some (p + length (w ∷ ws))) None
+    go true e i =
+        let q : p + 1 + length ws ≡ p + length (w ∷ ws) = omega arith in
+        rw (eq-eqb w x (sym (eqb-true x w e)), ← q) i
+    go false e i = rw (ne_eqb w x (λ d. eqb-false x w e (sym d)))
 
-  module _ (h : i < length word) where
-    pub past-short : length line ≤ k → Nowhere ≡ r
-    unfolding past
-    past-short l = rw (drop-cons word i 0 h, drop_of_length-le line l) at inv
+-- the text from a position on; past the end of the line it is empty
+pub rest-is : (line : List ℕ) (p : ℕ) (r : Option (Bor (List ℕ))) (none : Bor (List ℕ)) → IsGetRangeResult line p (length line) r → none.now ≡ []
+    → (unwrap_or r none).now ≡ drop p line
+rest-is line p None none h e = e ∙ sym (drop_of_length-le line (elim h.0 [ inl l ↦ omega arith | inr l ↦ absurd (omega arith) ]))
+rest-is line p (Some x) none h e = h.0.2 ∙ take_all _ _ (omega (arith, length-drop p line))
 
-    pub past-other : k < length line → (get_or line k 0 ≡ get_or word i 0 → ⊥) → Nowhere ≡ r
-    unfolding past
-    past-other l n = rw (drop-cons word i 0 h, drop-cons line k 0 l, ne_eqb _ _ n) at inv
+module _ (word text : List ℕ) (p : ℕ) (b : Bool) (e : b ≡ starts_with eqb text word) where
+  pub past-some : b ≡ true → Some (p + length word) ≡ past word p text
+  past-some t = sym (past-is word text p ∙ rw (← e, t))
 
-    pub past_more : k < length line → get_or line k 0 ≡ get_or word i 0 → past (drop (i + 1) word) (k + 1) (drop (k + 1) line) ≡ r
-    unfolding past
-    past_more l e = rw (add-one i, add-one k) (rw (drop-cons word i 0 h, drop-cons line k 0 l, eq-eqb _ _ e, add-one k) at inv)
+  pub past_none : b ≡ false → None ≡ past word p text
+  past_none t = sym (past-is word text p ∙ rw (← e, t))
 
 -- a text of one octet does not begin with a word of more
-pub past_one : (x v w p : ℕ) (word : List ℕ) → past (v ∷ w ∷ word) p (x ∷ []) ≡ Nowhere
+pub past_one : (x v w p : ℕ) (word : List ℕ) → past (v ∷ w ∷ word) p (x ∷ []) ≡ None
 unfolding past
 past_one x v w p word = go (eqb x v)
   where
-    go : (b : Bool) → cond b Nowhere Nowhere ≡ Nowhere
+    go : (b : Bool) → ◌≡◌ {A = Option ℕ} (cond b None None) None
     go true = refl
     go false = refl
 
-module _ (word : List ℕ) (p : ℕ) (line : List ℕ) (q : Place) (e : q ≡ past word p (drop p line)) where
-  pub ends_at : (k : ℕ) → q ≡ At k → eqb k (length line) ≡ ends word p line
-  unfolding ends
-  ends_at k v = rw (← e, v)
-
-  pub ends_nowhere : q ≡ Nowhere → false ≡ ends word p line
-  unfolding ends
-  ends_nowhere v = rw (← e, v)
-
-pub ruleset words = (past_end, past-short, past-other, past_more, ends_at, ends_nowhere)
+pub ruleset words = (past-some, past_none)

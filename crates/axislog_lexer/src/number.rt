@@ -3,86 +3,64 @@ ghost use Rattle.std.specs.Prelude.{◌≡◌, ◌≤◌};
 ghost use Rattle.std.specs.Prelude.{length, drop};
 ghost use Rattle.axislog_lexer.specs.{digit_of, digits, number, labelled, last};
 
-use crate::word::{Place, ends, past};
+use crate::word::{ends, past};
 
 // A number, and where the line goes on after it.
 #[derive(Clone, Copy, PartialEq, Eq)]
-pub enum Decimal {
-    Number(u32, usize),
-    Nothing,
+pub struct Decimal {
+    pub value: u32,
+    pub next: usize,
 }
 
 // The number after a word.
-pub fn labelled(line: &[u8], at: usize, word: &[u8]) -> Decimal
+pub fn labelled(line: &[u8], at: usize, word: &[u8]) -> Option<Decimal>
     ensures { result ≡ labelled word.now at line.now }
 {
-    match past(line, at, word) {
-        Place::At(p) => number(line, p),
-        Place::Nowhere => Decimal::Nothing,
-    }
+    number(line, past(line, at, word)?)
 }
 
 // The number in front of the word that ends the line.
-pub fn last(line: &[u8], at: usize, word: &[u8]) -> Decimal
+pub fn last(line: &[u8], at: usize, word: &[u8]) -> Option<Decimal>
     ensures { result ≡ last word.now at line.now }
 {
-    match number(line, at) {
-        Decimal::Number(n, p) => {
-            if ends(line, p, word) {
-                return Decimal::Number(n, p);
-            }
-            Decimal::Nothing
-        }
-        Decimal::Nothing => Decimal::Nothing,
-    }
+    number(line, at).filter(|found| ends(line, found.next, word))
 }
 
-fn number(line: &[u8], at: usize) -> Decimal
+fn number(line: &[u8], at: usize) -> Option<Decimal>
     ensures { result ≡ number at (drop at line.now) }
 {
-    if line.len() <= at {
-        return Decimal::Nothing;
-    }
-    let d = digit(line[at]);
-    if 9 < d {
-        return Decimal::Nothing;
-    }
-    digits(line, d, at + 1)
+    let first = digit(*line.get(at)?)?;
+    digits(line, first, at + 1)
 }
 
 // The digits from `at` on; the digits before them have the value `value`. No digit follows a leading 0.
-fn digits(line: &[u8], value: u64, at: usize) -> Decimal
-    requires { (value ≤ 4294967295) × (at ≤ length line.now) }
+fn digits(line: &[u8], value: u32, at: usize) -> Option<Decimal>
+    requires { at ≤ length line.now }
     ensures { result ≡ digits value at (drop at line.now) }
 {
     let mut n = value;
-    let mut k = at;
-    while k < line.len() {
-        let d = digit(line[k]);
-        if 9 < d {
-            return Decimal::Number(n as u32, k);
-        }
+    for k in at..line.len() {
+        let Some(d) = digit(line[k]) else {
+            return Some(Decimal { value: n, next: k });
+        };
         if n == 0 {
-            return Decimal::Nothing;
+            return None;
         }
-        if 4294967295 < n * 10 + d {
-            return Decimal::Nothing;
-        }
-        n = n * 10 + d;
-        k += 1;
+        n = n.checked_mul(10)?.checked_add(d)?;
     }
-    Decimal::Number(n as u32, k)
+    Some(Decimal {
+        value: n,
+        next: line.len(),
+    })
 }
 
-// The value of a digit; 10 for any other octet.
-fn digit(octet: u8) -> u64
+// The value of a digit.
+fn digit(octet: u8) -> Option<u32>
     ensures { result ≡ digit_of octet }
 {
-    if octet < 48 {
-        return 10;
+    if octet.is_ascii_digit() {
+        Some(u32::from(octet - b'0'))
+    } else {
+        None
     }
-    if 57 < octet {
-        return 10;
-    }
-    (octet - 48) as u64
 }

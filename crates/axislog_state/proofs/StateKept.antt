@@ -1,11 +1,11 @@
 -- The axis of a log stays within its limits: after any lines a started axis is acceptable, so that a call on it never gets 16, and a call that is
 -- taken is answered with the position. Call by call, by the laws of axis.
-use Rattle.std.specs.Prelude.{◌≡◌, refl, List, [], ◌∷◌, true, false, ℕ, zero, suc, ℤ}
+use Rattle.std.specs.Prelude.{◌≡◌, refl, List, [], ◌∷◌, true, false, ℕ, zero, suc, ℤ, Option, Some, None}
 use Rattle.std.proofs.Common.{arith}
 use Rattle.encoder.specs.{answer, refusal_on}
 use Rattle.axis.specs.{Axis, Next, acceptable, axis_refusal, position_of, reported, start_raw, read_raw, preset as preset_on}
 use Rattle.axis.proofs.{limits_of, accepts, raw-kept, preset-kept, raw-started-kept}
-use Rattle.axislog_forms.specs.{Setup, Form, Axis as AxisForm, Read, Preset, Nothing, form}
+use Rattle.axislog_forms.specs.{Setup, Form, Axis as AxisForm, Read, Preset, form}
 use Rattle.axislog_answers.specs.{At}
 use Rattle.axislog_state.specs.{Stage, NoAxis, Waiting, Started, State, Reply, plate_of, parameters_of, unstarted, empty, position_answer, refused, taken, after}
 use Rattle.axislog_state.specs.{ready, set_up, read_at, read, preset_at, preset, reply}
@@ -39,12 +39,12 @@ preset-at-kept Waiting s v e k = k
 preset-at-kept Started s v e k =
     after_kept s (preset_on s.axis v false) k (λ z. accepts _ (preset-kept s.axis (limits_of s.axis (k e)) v false))
 
-reply-kept : (s : State) (f : Form) → Kept s → Kept (reply s f).state
+reply-kept : (s : State) (f : Option Form) → Kept s → Kept (reply s f).state
 unfolding reply set_up read preset
-reply-kept s (AxisForm f) k = by_number s (ready f) (refusal_on (plate_of f) (parameters_of f)) k (λ z. unstarted-kept Waiting f (λ e. let z : ◌≡◌ {A = ℕ} 0 1 = cc in omega arith))
-reply-kept s (Read raw) k = read_kept s.stage s raw refl k
-reply-kept s (Preset v) k = preset-at-kept s.stage s v refl k
-reply-kept s Nothing k = k
+reply-kept s (Some (AxisForm f)) k = by_number s (ready f) (refusal_on (plate_of f) (parameters_of f)) k (λ z. unstarted-kept Waiting f (λ e. let z : ◌≡◌ {A = ℕ} 0 1 = cc in omega arith))
+reply-kept s (Some (Read raw)) k = read_kept s.stage s raw refl k
+reply-kept s (Some (Preset v)) k = preset-at-kept s.stage s v refl k
+reply-kept s None k = k
 
 -- ---- any lines
 abbrev pub after_lines : State → List (List ℕ) → State

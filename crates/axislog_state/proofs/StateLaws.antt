@@ -10,10 +10,10 @@ use Rattle.encoder.specs.{Nameplate, Parameters, Class2, Units, refusal_on}
 use Rattle.encoder.proofs.{answer-no}
 use Rattle.axis_shaft.specs.{nowhere, Reported, At as Found, declared.Reported.TheVariants.Refused as Outside}
 use Rattle.axis.specs.{Axis, Next, reported, fresh, start_raw, read_raw, preset as preset_on}
-use Rattle.axislog_forms.specs.{Setup, Form, Axis as AxisForm, Read, Preset, Nothing}
+use Rattle.axislog_forms.specs.{Setup}
 use Rattle.axislog_answers.specs.{Ready, At, Refused}
 use Rattle.axislog_state.specs.{Stage, NoAxis, Waiting, Started, State, Reply, plate_of, parameters_of, unstarted, position_answer, refused, after, ready, set_up}
-use Rattle.axislog_state.specs.{read_at, read, preset_at, preset, reply}
+use Rattle.axislog_state.specs.{read_at, read, preset_at, preset}
 
 -- ---- plate and parameters
 octet-is : (b c : Bool) → bool_byte b * 8 + 2 + bool_byte c ≡ at b 3 + at true 1 + at c 0
@@ -88,24 +88,6 @@ module _ (s : State) (v : ℤ) (r : Reply) where
   unfolding preset
   preset-made x e w x-is fits = e ∙ ap (after s) (rw (reads fits) at x-is) ∙ sym (ap (λ (g : Stage). preset_at g s v) w)
 
--- ---- each form
-module _ (s : State) (f : Form) (r : Reply) where
-  pub reply-axis : (u : Setup) → f ≡ AxisForm u → r ≡ set_up s u → r ≡ reply s f
-  unfolding reply
-  reply-axis u v e = rw (v, e)
-
-  pub reply-read : (raw : ℕ) → f ≡ Read raw → r ≡ read s raw → r ≡ reply s f
-  unfolding reply
-  reply-read raw v e = rw (v, e)
-
-  pub reply-preset : (z : ℤ) → f ≡ Preset z → r ≡ preset s (to_z w64 (of_z w64 z)) → SFits w64 z → r ≡ reply s f
-  unfolding reply
-  reply-preset z v e fits = rw (v, e, reads fits)
-
-  pub reply-nothing : f ≡ Nothing → r ≡ refused s 15 → r ≡ reply s f
-  unfolding reply
-  reply-nothing v e = rw (v, e)
-
 pub ruleset set-ups = (scaling-fits, class-fits, octet-fits, parameters-is, unstarted-is, set-up-refused, set-up-ready)
 
-pub ruleset replies = (answer_at, answer-outside, read_none, read_first, read_next, preset-none, preset-made, reply-axis, reply-read, reply-preset, reply-nothing)
+pub ruleset replies = (answer_at, answer-outside, read_none, read_first, read_next, preset-none, preset-made)

@@ -1,10 +1,10 @@
 -- The axis of a log, and what a form does to it (document 01, "The program axislog").
-use Rattle.std.specs.Prelude.{ℕ, ◌+◌, false, true, ℤ}
+use Rattle.std.specs.Prelude.{ℕ, ◌+◌, false, true, ℤ, Option, Some, None}
 use Rattle.integer.specs.{at}
 use Rattle.encoder.specs.{Nameplate, Parameters, Class2, NoForm, NoAxis, answer, plain_plate, refusal_on}
 use Rattle.axis_shaft.specs.{nowhere, Reported, At as Found, declared.Reported.TheVariants.Refused as Outside}
 use Rattle.axis.specs.{Axis, Next, reported, fresh, start_raw, read_raw, preset as preset_on}
-use Rattle.axislog_forms.specs.{Setup, Form, Axis as AxisForm, Read, Preset, Nothing}
+use Rattle.axislog_forms.specs.{Setup, Form, Axis as AxisForm, Read, Preset}
 use Rattle.axislog_answers.specs.{Answer, Ready, At, Refused}
 use Rattle.axislog_state.specs.{declared.Stage.Stage, declared.Stage.TheVariants.NoAxis, declared.Stage.TheVariants.Waiting}
 use Rattle.axislog_state.specs.{declared.Stage.TheVariants.Started, declared.State.State, declared.Reply.Reply}
@@ -72,8 +72,8 @@ unfoldable pub preset : State → ℤ → Reply
 preset s v = preset_at s.stage s v
 
 -- 15 comes before all others
-unfoldable pub reply : State → Form → Reply
-reply s (AxisForm f) = set_up s f
-reply s (Read raw) = read s raw
-reply s (Preset v) = preset s v
-reply s Nothing = refused s NoForm
+unfoldable pub reply : State → Option Form → Reply
+reply s (Some (AxisForm f)) = set_up s f
+reply s (Some (Read raw)) = read s raw
+reply s (Some (Preset v)) = preset s v
+reply s None = refused s NoForm

@@ -53,15 +53,15 @@ impl State {
         )
     }
 
-    // What a form does to the axis, and its answer.
-    pub fn reply(self, form: Form) -> Reply
+    // What a form does to the axis, and its answer. A line that is no form is refused.
+    pub fn reply(self, form: Option<Form>) -> Reply
         ensures { result ≡ reply self form }
     {
         match form {
-            Form::Axis(setup) => self.set_up(setup),
-            Form::Read(raw) => self.read(raw),
-            Form::Preset(value) => self.preset(value),
-            Form::Nothing => self.refused(refusal::FORM),
+            Some(Form::Axis(setup)) => self.set_up(setup),
+            Some(Form::Read(raw)) => self.read(raw),
+            Some(Form::Preset(value)) => self.preset(value),
+            None => self.refused(refusal::FORM),
         }
     }
 

@@ -1,4 +1,4 @@
--- A text stands at the start of a buffer, and `bytes::copy` writes another one behind it: then both stand at the start, and the rest is as it was.
+-- A text stands at the start of a buffer, and `copy_from_slice` writes another one behind it: then both stand at the start, and the rest is as it was.
 use Rattle.std.specs.Prelude.{◌≡◌, refl, List, [], ◌∷◌, ◌++◌, ℕ, zero, suc, ◌≤◌, length, take, drop}
 use Rattle.std.proofs.Common.{sym, ◌∙◌, append_assoc, arith, length-append}
 use Rattle.std.proofs.Common.{take_at, drop_at, drop-drop, length-take-le}

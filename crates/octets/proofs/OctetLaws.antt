@@ -1,11 +1,12 @@
--- What the loops over octets keep: at the start, one octet further and at the end. And what a bit is.
+-- What the fold and the loop over octets keep, and what a bit is.
 pub use borrow.Author.Rules.{rules}
-use Rattle.std.specs.Prelude.{◌≡◌, refl, false, List, [], ◌++◌, ℕ, zero, suc, ◌+◌, ◌-◌, ◌*◌, ◌/◌, ◌%◌, ◌^◌, ◌<◌, ◌≤◌}
-use Rattle.std.proofs.Common.{append_assoc, append-nil, arith, add-one}
+use Rattle.std.specs.Prelude.{◌≡◌, refl, false, List, ◌++◌, ℕ, zero, suc, ◌+◌, ◌-◌, ◌*◌, ◌/◌, ◌%◌, ◌^◌, ◌<◌, ◌≤◌}
+use Rattle.std.proofs.Common.{append_assoc, arith}
 use Rattle.std.specs.Int.{w8}
 use Rattle.std.specs.Prelude.{length, get_or, take, drop, set}
 use Rattle.std.proofs.Common.{take_all, drop-cons}
-use Rattle.std.proofs.Math.Seq.{drop-length}
+use Rattle.std.specs.List.{fold}
+use Rattle.std.proofs.lemmas.List.Sums.{fold_push}
 use Rattle.std.specs.Int.Bits.{bit_and}
 use Rattle.std.proofs.lemmas.Nat.{and_mask}
 use mir.Val.{Fits}
@@ -14,22 +15,18 @@ use Rattle.integer.proofs.{big_endian-snoc}
 use lib.{Seq.take-suc, Seq.drop-set-lt, Seq.get_or-set_same, Seq.lt-length-set}
 use native.Mathlib.Nat as N
 
--- the number of no octets, of one more, and of all
-pub number-none : 0 ≡ big_endian [] % 2 ^ 32
+-- the number of the first octets, one after the other, and so of all
+firsts : (s : List ℕ) → ((i : ℕ) → Fits w8 (get_or s i 0)) → (i : ℕ) → i ≤ length s → fold (λ n o. n % 16777216 * 256 + o) 0 (take i s) ≡ big_endian (take i s) % 2 ^ 32
 unfolding big_endian
-number-none = refl
+firsts s k zero h = refl
+firsts s k (suc i) h =
+    let l : i < length s = omega arith in
+    rw (take-suc s i 0 l, fold_push, big_endian-snoc) (omega (arith, firsts s k i (omega arith), (k i).fits))
 
-pub number_more : (s : List ℕ) (i n : ℕ) → i < length s → Fits w8 (get_or s i 0) → n ≡ big_endian (take i s) % 2 ^ 32
-    → n % 2 ^ 24 * 256 + get_or s i 0 ≡ big_endian (take (i + 1) s) % 2 ^ 32
-number_more s i n h k e = rw (add-one, take-suc s i 0 h, big_endian-snoc) (omega (arith, k.fits))
+pub number-fold : (s : List ℕ) → ((i : ℕ) → Fits w8 (get_or s i 0)) → fold (λ n o. n % 16777216 * 256 + o) 0 s ≡ big_endian s % 2 ^ 32
+number-fold s k = rw (take_all (length s) s (N.le_refl (length s))) at (firsts s k (length s) (N.le_refl (length s)))
 
-pub number-all : (s : List ℕ) (i n : ℕ) → length s ≤ i → n ≡ big_endian (take i s) % 2 ^ 32 → n ≡ big_endian s % 2 ^ 32
-number-all s i n h e = rw (take_all i s h) at e
-
--- the octets still to be written, in front of those written: at the start, one further and at the end
-pub put-none : (s : List ℕ) (n : ℕ) → octets (length s) n ++ drop (length s) s ≡ octets (length s) n
-put-none s n = rw (drop-length, append-nil)
-
+-- the octets still to be written, in front of those written: one further and at the end
 pub put-more : (s l : List ℕ) (i n : ℕ) → 0 < i → i ≤ length s → octets i n ++ drop i s ≡ l
     → octets (i - 1) (n / 256) ++ drop (i - 1) (set s (i - 1) (n % 256)) ≡ l
 unfolding octets

@@ -8,13 +8,8 @@ ghost use Rattle.integer.specs.{big_endian, octets, bit};
 pub fn number(part: &[u8]) -> u32
     ensures { result ≡ big_endian part.now % 2 ^ 32 }
 {
-    let mut n: u32 = 0;
-    let mut i = 0;
-    while i < part.len() {
-        n = n % 0x100_0000 * 256 + part[i] as u32;
-        i += 1;
-    }
-    n
+    part.iter()
+        .fold(0, |n, octet| n % 0x100_0000 * 256 + u32::from(*octet))
 }
 
 // Writes a number into the octets, with zeros in front. Fewer than four octets get its last octets.
@@ -22,9 +17,7 @@ pub fn put_number(part: &mut [u8], n: u32)
     ensures { part.new ≡ octets (length part.old) n }
 {
     let mut rest = n;
-    let mut i = part.len();
-    while 0 < i {
-        i -= 1;
+    for i in (0..part.len()).rev() {
         part[i] = (rest % 256) as u8;
         rest = rest / 256;
     }

@@ -1,12 +1,15 @@
 use Rattle.std.proofs.Common.{rules}
-use Rattle.axislog_forms.proofs.{FormLaws.lines}
+use Rattle.axislog_forms.specs.{form}
 use Rattle.axislog_forms.proofs.parse.Goals as goal
 
-pub returns-in-At : goal.returns-in-At
-returns-in-At c = search (rules, lines)
+pub returns-in-Some : goal.returns-in-Some
+unfolding form
+returns-in-Some c = search rules
 
-pub returns-in-At-past : goal.returns-in-At-past
-returns-in-At-past c = search (rules, lines)
+pub returns-in-Some-past : goal.returns-in-Some-past
+unfolding form
+returns-in-Some-past c = search rules
 
-pub returns-in-Nowhere-past : goal.returns-in-Nowhere-past
-returns-in-Nowhere-past c = search (rules, lines)
+pub returns : goal.returns
+unfolding form
+returns c = search rules

@@ -1,18 +1,23 @@
 use Rattle.std.proofs.Common.{rules}
-use Rattle.axislog_forms.proofs.{FormLaws.lines}
+use Rattle.axislog_forms.specs.{preset}
 use Rattle.axislog_forms.proofs.preset.Goals as goal
 
+pub returns-in_err-value : goal.returns-in_err-value
+unfolding preset
+returns-in_err-value c = search rules
+
 pub returns-then-value-eq0 : goal.returns-then-value-eq0
-returns-then-value-eq0 c = search (rules, lines)
+unfolding preset
+returns-then-value-eq0 c = search rules
 
-pub returns-else-value-eq0 : goal.returns-else-value-eq0
-returns-else-value-eq0 c = search (rules, lines)
+pub returns-in-Some : goal.returns-in-Some
+unfolding preset
+returns-in-Some c = search rules
 
-pub returns-in-Nothing : goal.returns-in-Nothing
-returns-in-Nothing c = search (rules, lines)
+pub returns-in_err-number : goal.returns-in_err-number
+unfolding preset
+returns-in_err-number c = search rules
 
-pub returns-in-Number-last : goal.returns-in-Number-last
-returns-in-Number-last c = search (rules, lines)
-
-pub returns-in-Nothing-last : goal.returns-in-Nothing-last
-returns-in-Nothing-last c = search (rules, lines)
+pub returns : goal.returns
+unfolding preset
+returns c = search rules

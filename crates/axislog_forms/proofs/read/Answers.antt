@@ -1,9 +1,11 @@
 use Rattle.std.proofs.Common.{rules}
-use Rattle.axislog_forms.proofs.{FormLaws.lines}
+use Rattle.axislog_forms.specs.{read}
 use Rattle.axislog_forms.proofs.read.Goals as goal
 
-pub returns-in-Number : goal.returns-in-Number
-returns-in-Number c = search (rules, lines)
+pub returns-in_err-raw : goal.returns-in_err-raw
+unfolding read
+returns-in_err-raw c = search rules
 
-pub returns-in-Nothing : goal.returns-in-Nothing
-returns-in-Nothing c = search (rules, lines)
+pub returns : goal.returns
+unfolding read
+returns c = search rules

@@ -1,18 +1,23 @@
 use Rattle.std.proofs.Common.{rules}
-use Rattle.axislog_forms.proofs.{FormLaws.axes}
+use Rattle.axislog_forms.specs.{scale}
 use Rattle.axislog_forms.proofs.scale.Goals as goal
 
 pub returns-then-ends : goal.returns-then-ends
-returns-then-ends c = search (rules, axes)
+unfolding scale
+returns-then-ends c = search rules
 
-pub returns-in-Number-last : goal.returns-in-Number-last
-returns-in-Number-last c = search (rules, axes)
+pub returns-in_err-units : goal.returns-in_err-units
+unfolding scale
+returns-in_err-units c = search rules
 
-pub returns-in-Nothing-last : goal.returns-in-Nothing-last
-returns-in-Nothing-last c = search (rules, axes)
+pub returns-in_err-behind : goal.returns-in_err-behind
+unfolding scale
+returns-in_err-behind c = search rules
 
-pub returns-in-Nowhere : goal.returns-in-Nowhere
-returns-in-Nowhere c = search (rules, axes)
+pub returns-in_err-range : goal.returns-in_err-range
+unfolding scale
+returns-in_err-range c = search rules
 
-pub returns-in-Nothing : goal.returns-in-Nothing
-returns-in-Nothing c = search (rules, axes)
+pub returns : goal.returns
+unfolding scale
+returns c = search rules

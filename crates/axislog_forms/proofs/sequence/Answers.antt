@@ -1,15 +1,19 @@
 use Rattle.std.proofs.Common.{rules}
-use Rattle.axislog_forms.proofs.{FormLaws.axes}
+use Rattle.axislog_forms.specs.{sequence}
 use Rattle.axislog_forms.proofs.sequence.Goals as goal
 
-pub returns-in-At-past : goal.returns-in-At-past
-returns-in-At-past c = search (rules, axes)
+pub returns-in_err-word : goal.returns-in_err-word
+unfolding sequence
+returns-in_err-word c = search rules
 
-pub returns-in-At-past-2 : goal.returns-in-At-past-2
-returns-in-At-past-2 c = search (rules, axes)
+pub returns-in-Some : goal.returns-in-Some
+unfolding sequence
+returns-in-Some c = search rules
 
-pub returns-in-Nowhere-past-2 : goal.returns-in-Nowhere-past-2
-returns-in-Nowhere-past-2 c = search (rules, axes)
+pub returns-in_err-next : goal.returns-in_err-next
+unfolding sequence
+returns-in_err-next c = search rules
 
-pub returns-in-Nowhere : goal.returns-in-Nowhere
-returns-in-Nowhere c = search (rules, axes)
+pub returns : goal.returns
+unfolding sequence
+returns c = search rules

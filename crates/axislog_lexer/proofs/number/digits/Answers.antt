@@ -3,14 +3,17 @@ use Rattle.std.proofs.Common.{rules}
 use Rattle.axislog_lexer.proofs.{NumberLaws.digit-steps}
 use Rattle.axislog_lexer.proofs.number.digits.Goals as goal
 
-pub returns-then-d-gt9 : goal.returns-then-d-gt9
-returns-then-d-gt9 c = search (rules, digit-steps)
+pub returns-in_default : goal.returns-in_default
+returns-in_default c = search (rules, digit-steps)
 
 pub returns-then-n-eq0 : goal.returns-then-n-eq0
 returns-then-n-eq0 c = search (rules, digit-steps)
 
-pub returns-then-n-d-gt4294967295 : goal.returns-then-n-d-gt4294967295
-returns-then-n-d-gt4294967295 c = search (rules, digit-steps)
+pub returns-in_err-checked_mul : goal.returns-in_err-checked_mul
+returns-in_err-checked_mul c = search (rules, digit-steps)
+
+pub returns-in_err-n : goal.returns-in_err-n
+returns-in_err-n c = search (rules, digit-steps)
 
 pub loop-k-preserved : goal.loop-k-preserved
 loop-k-preserved c = search (rules, digit-steps)

@@ -1,9 +1,11 @@
 use Rattle.std.proofs.Common.{rules}
-use Rattle.axislog_lexer.proofs.{NumberLaws.numbers}
+use Rattle.axislog_lexer.specs.{labelled}
 use Rattle.axislog_lexer.proofs.number.labelled.Goals as goal
 
-pub returns-in-At : goal.returns-in-At
-returns-in-At c = search (rules, numbers)
+pub returns-in_err-past : goal.returns-in_err-past
+unfolding labelled
+returns-in_err-past c = search rules
 
-pub returns-in-Nowhere : goal.returns-in-Nowhere
-returns-in-Nowhere c = search (rules, numbers)
+pub returns : goal.returns
+unfolding labelled
+returns c = search rules
