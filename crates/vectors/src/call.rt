@@ -5,7 +5,6 @@ ghost use Rattle.vectors.specs.{Counts};
 use crate::answer;
 use crate::lent::lent;
 use crate::parse::{decimal, long, past_blanks, signed};
-use crate::same::same;
 use crate::vector::{nameplate, octets, parameters};
 use axis::{Axis, Next};
 use axis_shaft::Shaft;
@@ -123,7 +122,7 @@ fn reading(rt: &impl Print, axis: Axis, line: &[u8]) -> io::Result<Axis> {
 // The answer by value, and `differs` below it where the other is not the same.
 fn compared(rt: &impl Print, next: Next, other: Next) -> io::Result<Axis> {
     answer::next(rt, next)?;
-    if !same(next, other) {
+    if next != other {
         println!(rt; "  differs")?;
     }
     Ok(next.axis)

@@ -9,7 +9,6 @@ mod bench;
 mod call;
 mod lent;
 mod parse;
-mod same;
 mod vector;
 
 use std::io;
