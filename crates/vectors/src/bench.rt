@@ -8,6 +8,7 @@ use cyclic::telegram83::cycle_83;
 use cyclic::{Cycled, cycle};
 use cyclic_link::Link;
 use diagnosis::diagnosis;
+use parameters_reader::{read_block, read_telegram};
 use std::io;
 
 #[derive(Clone, Copy, PartialEq, Eq)]
@@ -38,8 +39,8 @@ impl Bench {
     ) -> io::Result<()> {
         let axis = self.axis;
         match word {
-            Word::Telegram => vector::telegram(rt, numbers)?,
-            Word::Block => vector::block(rt, numbers)?,
+            Word::Telegram => vector::read(rt, numbers, read_telegram)?,
+            Word::Block => vector::read(rt, numbers, read_block)?,
             Word::Write(class) => vector::write(rt, class, numbers)?,
             Word::Axis(class) => *self = Bench::of(call::described(class, numbers)),
             Word::Given => call::given(&mut self.axis, numbers),
@@ -51,7 +52,7 @@ impl Bench {
             Word::Change => self.answered(rt, axis.preset(numbers.signed(), true))?,
             Word::Hold => self.answered(rt, axis.store(numbers.signed()))?,
             Word::List => self.list(rt, numbers)?,
-            Word::Velocity => call::fast(rt, axis, numbers)?,
+            Word::Velocity => call::velocity(rt, axis, numbers)?,
             Word::Exchange => self.exchange(rt, numbers)?,
             Word::Measured => self.measured(rt, numbers)?,
             Word::Diagnose => self.diagnose(rt, numbers)?,
@@ -84,18 +85,17 @@ impl Bench {
         rt: &impl Print,
         size: usize,
         numbers: &mut Numbers,
-        cycle: F,
+        one_cycle: F,
     ) -> io::Result<()>
-        requires { F.IsAlwaysCallable cycle }
+        requires { F.IsAlwaysCallable one_cycle }
     {
         let mut output = [0; 64];
-        let n = numbers.all(Numbers::octet, &mut output);
+        let n = numbers.fill(&mut output, Numbers::octet);
         let mut input = [0xee; 64];
-        if 64 < size {
+        let Some(lent) = input.get_mut(..size) else {
             return Ok(());
-        }
-        let lent = &mut input[..size];
-        let next = cycle(*self, &output[..n], lent);
+        };
+        let next = one_cycle(*self, &output[..n], lent);
         self.axis = next.axis;
         self.link = next.link;
         answer::cycled(rt, next, lent)
@@ -105,10 +105,9 @@ impl Bench {
     fn diagnose(&self, rt: &impl Print, numbers: &mut Numbers) -> io::Result<()> {
         let size = numbers.decimal() as usize;
         let mut buffer = [0xee; 64];
-        if 64 < size {
+        let Some(lent) = buffer.get_mut(..size) else {
             return Ok(());
-        }
-        let lent = &mut buffer[..size];
+        };
         let answer = diagnosis(self.axis, self.link, lent);
         answer::diagnosed(rt, answer, lent)
     }

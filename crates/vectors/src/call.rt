@@ -9,7 +9,6 @@ use crate::word::Class;
 use axis::{Axis, Next};
 use axis_batch::batch;
 use axis_shaft::Shaft;
-use axis_velocity::velocity;
 use encoder::nameplate::Nameplate;
 use encoder::parameters::Parameters;
 use encoder::quantity::{Steps, Turns, Units};
@@ -59,28 +58,34 @@ pub(crate) fn given(axis: &mut Axis, numbers: &mut Numbers) {
 pub(crate) fn serial(axis: &mut Axis, numbers: &mut Numbers) {
     let mut software = [0; 2];
     let mut serial = [0; 10];
-    numbers.all(Numbers::octet, &mut software);
-    numbers.all(Numbers::octet, &mut serial);
+    numbers.fill(&mut software, Numbers::octet);
+    numbers.fill(&mut serial, Numbers::octet);
     axis.nameplate.software = software;
     axis.nameplate.serial = serial;
 }
 
+// A step and a turn.
+fn step_and_turn(numbers: &mut Numbers) -> (Steps, Turns) {
+    let step = Steps(u64::from(numbers.decimal()));
+    let turn = Turns(numbers.decimal());
+    (step, turn)
+}
+
 // `first`: starts the axis at a step and a turn.
 pub(crate) fn first(axis: Axis, numbers: &mut Numbers) -> Next {
-    let step = Steps(numbers.decimal() as u64);
-    let turn = Turns(numbers.decimal());
+    let (step, turn) = step_and_turn(numbers);
     Axis::start(axis.nameplate, axis.parameters, step, turn)
 }
 
 // `velocity`: a step, a turn, and the milliseconds since the last reading.
-pub(crate) fn fast(rt: &impl Print, axis: Axis, numbers: &mut Numbers) -> io::Result<()> {
-    let step = Steps(numbers.decimal() as u64);
-    let turn = Turns(numbers.decimal());
+pub(crate) fn velocity(rt: &impl Print, axis: Axis, numbers: &mut Numbers) -> io::Result<()> {
+    let (step, turn) = step_and_turn(numbers);
     let elapsed = (numbers.decimal() % 65536) as u16;
-    answer::speed(rt, velocity(axis, step, turn, elapsed))
+    answer::speed(rt, axis_velocity::velocity(axis, step, turn, elapsed))
 }
 
 impl Bench {
+    // Prints the answer, and keeps the axis that it leaves.
     pub(crate) fn answered(&mut self, rt: &impl Print, next: Next) -> io::Result<()> {
         self.axis = next.axis;
         answer::next(rt, next)
@@ -88,8 +93,7 @@ impl Bench {
 
     // `reading`: a step and a turn, made both ways, by value and through a lent record. It says `differs` where the two are not the same.
     pub(crate) fn reading(&mut self, rt: &impl Print, numbers: &mut Numbers) -> io::Result<()> {
-        let step = Steps(numbers.decimal() as u64);
-        let turn = Turns(numbers.decimal());
+        let (step, turn) = step_and_turn(numbers);
         let next = self.axis.read(step, turn);
         let other = lent(self.axis, step, turn);
         self.answered(rt, next)?;
@@ -103,13 +107,12 @@ impl Bench {
     pub(crate) fn list(&mut self, rt: &impl Print, numbers: &mut Numbers) -> io::Result<()> {
         let size = numbers.decimal() as usize;
         let mut raws = [0; 64];
-        let n = numbers.all(Numbers::decimal, &mut raws);
+        let n = numbers.fill(&mut raws, Numbers::decimal);
         let mut positions = [7; 64];
-        if 64 < size {
+        let Some(list) = positions.get_mut(..size) else {
             return Ok(());
-        }
-        let lent = &mut positions[..size];
-        self.answered(rt, batch(self.axis, &raws[..n], lent))?;
-        answer::positions(rt, lent)
+        };
+        self.answered(rt, batch(self.axis, &raws[..n], list))?;
+        answer::positions(rt, list)
     }
 }

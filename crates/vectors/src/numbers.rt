@@ -13,7 +13,7 @@ impl<'a> Numbers<'a> {
         Numbers { rest: line }
     }
 
-    // The next decimal number: its last 32 bits. It is 0 where no digit stands.
+    // The next decimal number: its last 32 bits. Where no digit stands it is 0.
     pub(crate) fn decimal(&mut self) -> u32 {
         self.pass_blanks();
         last_32_bits(self.number(10))
@@ -31,9 +31,9 @@ impl<'a> Numbers<'a> {
         match self.rest.strip_prefix(b"-") {
             Some(rest) => {
                 self.rest = rest;
-                0 - last_32_bits(self.number(10)) as i64
+                -i64::from(last_32_bits(self.number(10)))
             }
-            None => last_32_bits(self.number(10)) as i64,
+            None => i64::from(last_32_bits(self.number(10))),
         }
     }
 
@@ -48,11 +48,11 @@ impl<'a> Numbers<'a> {
         (self.hexadecimal() % 256) as u8
     }
 
-    // Writes what `next` takes from the line to the front of out, until the line ends, and answers how many there are.
-    pub(crate) fn all<T: Copy, F: Fn(&mut Numbers<'a>) -> T>(
+    // Writes the numbers that are left to the front of out, each as `next` takes it, and answers how many there are.
+    pub(crate) fn fill<T: Copy, F: Fn(&mut Numbers<'a>) -> T>(
         &mut self,
-        next: F,
         out: &mut [T],
+        next: F,
     ) -> usize
         requires { F.IsAlwaysCallable next }
         ensures { Counts result out.new }
@@ -73,14 +73,14 @@ impl<'a> Numbers<'a> {
         }
     }
 
-    // The number that begins here. Of a long one only the last 56 bits and one digit count.
+    // The number that begins here. Before each further digit it is cut to its last 56 bits.
     fn number(&mut self, base: u64) -> u64
         requires { base ≤ 16 }
     {
         let mut value = 0;
         while let Some((c, rest)) = self.rest.split_first() {
             let Some(d) = digit(*c).filter(|d| *d < base) else {
-                return value;
+                break;
             };
             value = value % 0x100_0000_0000_0000 * base + d;
             self.rest = rest;
@@ -98,8 +98,8 @@ fn digit(c: u8) -> Option<u64>
     ensures { IfSome result (λ d. d < 16) }
 {
     match c {
-        b'0'..=b'9' => Some((c - b'0') as u64),
-        b'a'..=b'f' => Some((c - b'a') as u64 + 10),
+        b'0'..=b'9' => Some(u64::from(c - b'0')),
+        b'a'..=b'f' => Some(u64::from(c - b'a') + 10),
         _ => None,
     }
 }

@@ -7,7 +7,7 @@ use crate::word::{Class, Word};
 use encoder::nameplate::Nameplate;
 use encoder::parameters::Parameters;
 use encoder::quantity::Units;
-use parameters_reader::{read_block, read_telegram};
+use parameters_reader::Received;
 use parameters_writer::write_parameters;
 use std::io;
 
@@ -17,38 +17,35 @@ pub(crate) fn run(rt: &impl Print, bench: &mut Bench, line: &[u8]) -> io::Result
     let Some((columns, rest)) = line.split_first_chunk() else {
         return Ok(());
     };
-    match Word::of(columns) {
-        Some(word) => bench.run(rt, word, &mut Numbers::of(rest)),
-        None => Ok(()),
-    }
+    let Some(word) = Word::of(columns) else {
+        return Ok(());
+    };
+    bench.run(rt, word, &mut Numbers::of(rest))
 }
 
-// `telegram`: the octets of a class 2 telegram, to be read.
-pub(crate) fn telegram(rt: &impl Print, numbers: &mut Numbers) -> io::Result<()> {
+// `telegram` and `block`: the octets of a class 2 telegram or of a class 4 block, to be read.
+pub(crate) fn read<F: FnOnce(Nameplate, &[u8]) -> Received>(
+    rt: &impl Print,
+    numbers: &mut Numbers,
+    reader: F,
+) -> io::Result<()>
+    requires { F.IsAlwaysCallable reader }
+{
     let plate = nameplate(numbers);
     let mut buffer = [0; 64];
-    let n = numbers.all(Numbers::octet, &mut buffer);
-    answer::received(rt, plate, read_telegram(plate, &buffer[..n]))
-}
-
-// `block`: the octets of a class 4 block, to be read.
-pub(crate) fn block(rt: &impl Print, numbers: &mut Numbers) -> io::Result<()> {
-    let plate = nameplate(numbers);
-    let mut buffer = [0; 64];
-    let n = numbers.all(Numbers::octet, &mut buffer);
-    answer::received(rt, plate, read_block(plate, &buffer[..n]))
+    let n = numbers.fill(&mut buffer, Numbers::octet);
+    answer::received(rt, plate, reader(plate, &buffer[..n]))
 }
 
 // `write 2` and `write 4`: the length of a buffer that holds EEh, and the fields in the order of the telegram or the block, to be written.
 pub(crate) fn write(rt: &impl Print, class: Class, numbers: &mut Numbers) -> io::Result<()> {
     let plate = nameplate(numbers);
-    let n = numbers.decimal() as usize;
+    let size = numbers.decimal() as usize;
     let parameters = parameters(class, numbers);
     let mut buffer = [0xee; 64];
-    if 64 < n {
+    let Some(lent) = buffer.get_mut(..size) else {
         return Ok(());
-    }
-    let lent = &mut buffer[..n];
+    };
     let answer = write_parameters(plate, parameters, lent);
     answer::written(rt, answer, lent)
 }
