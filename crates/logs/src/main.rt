@@ -4,7 +4,7 @@
 
 ghost use Rattle.std.specs.Prelude.{◌≤◌, length};
 
-use axislog_core::{OUTPUT, Outcome, answer};
+use axislog_core::{OUTPUT, answer};
 use std::fs::File;
 use std::io::Read;
 use std::{env, io};
@@ -69,9 +69,9 @@ fn fill<R: Read>(file: &mut R, buffer: &mut [u8]) -> usize
 fn run(rt: &impl Print, log: &[u8], output: &mut [u8]) -> io::Result<()> {
     let room = output.len();
     match answer(log, output) {
-        Outcome::Written(n) => rt.write_all(&output[..n]),
+        Ok(n) => rt.write_all(&output[..n]),
         // as axislog prints it
-        Outcome::Refused(n) if room == OUTPUT => println!(rt; "(refused {n})"),
-        Outcome::Refused(n) => println!(rt; "turned away with {n}"),
+        Err(refusal) if room == OUTPUT => println!(rt; "(refused {})", refusal.number()),
+        Err(refusal) => println!(rt; "turned away with {}", refusal.number()),
     }
 }
