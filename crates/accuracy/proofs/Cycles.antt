@@ -4,6 +4,7 @@ use Rattle.std.specs.Prelude.{◌≡◌, refl, Bool, true, false, cond, not, ◌
 use Rattle.std.proofs.Common.{arith, ne_eqb}
 use Rattle.std.proofs.Math.Bool.{and-true}
 use Rattle.axis_shaft.specs.{move_refusal, moved_to}
+use Rattle.encoder.specs.{Refusal}
 use Rattle.axis.specs.{rules_on, position_of, at_raw, presetted}
 use Rattle.axis.proofs.{Limits, singly, reported-is, raw-kept}
 use Rattle.cyclic_link.specs.{Link, Preset as Reacted, Class2.made as made2, Class2.link as link2, Class4.asked as asked4, held, Class4.made as made4, Class4.link as link4, Classes.reaction}

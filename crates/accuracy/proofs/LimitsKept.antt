@@ -3,6 +3,7 @@
 use Rattle.std.specs.Prelude.{◌≡◌, refl, true, List, [], ◌∷◌, ℕ, zero, suc, Option, None, Some}
 use Rattle.std.proofs.Common.{◌∙◌}
 use Rattle.sensor.specs.{raw_of}
+use Rattle.encoder.specs.{Refusal}
 use Rattle.axis.specs.{Axis, acceptable, next, at_raw, read_raw_refusal, read_raw, read_refusal, read, preset_refusal, presetted, preset, holding, store}
 use Rattle.axis.proofs.{Limits, limits_of, accepts, raw-kept, read_kept, preset-kept, store_kept}
 use Rattle.axis_batch.specs.{after, batch_refusal, batch}

@@ -43,51 +43,51 @@ module _ (s : State) (p : ℕ) (g : ℤ) (limits : Within s) where
   unfolding link_refusal
   link-none = rw limits.link
 
-  abbrev number : Call → ℕ
-  number c = refusal_by (device_of s.axis) (ledger_of s p g) c
+  abbrev due : Call → Option Refusal
+  due c = refusal_by (device_of s.axis) (ledger_of s p g) c
 
-  read_is : (raw : ℕ) → shaft_refusal (rules_on s.axis) s.axis.shaft raw ≡ number (raw_reading raw)
+  read_is : (raw : ℕ) → shaft_refusal (rules_on s.axis) s.axis.shaft raw ≡ due (raw_reading raw)
   unfolding rules_on
   read_is raw = read-refusal (rules_on s.axis) s.axis.shaft lim.shaft raw
 
-  batch-is : (raws positions : List ℕ) → batch_refusal s.axis raws positions ≡ number (batching raws positions)
+  batch-is : (raws positions : List ℕ) → batch_refusal s.axis raws positions ≡ due (batching raws positions)
   unfolding batch_refusal rules_on
   batch-is raws positions = rw (limits-none s.axis lim, first-is s.axis raws lim)
 
-  cycle-is : (raw : ℕ) (output input : List ℕ) → cycle_refusal s.axis s.link output input ≡ number (cycling raw output input)
+  cycle-is : (raw : ℕ) (output input : List ℕ) → cycle_refusal s.axis s.link output input ≡ due (cycling raw output input)
   unfolding cycle_refusal
   cycle-is raw output input = rw (limits-none s.axis lim, link-none)
 
-  cycle83-is : (raw elapsed : ℕ) (output input : List ℕ) → cycle83_refusal s.axis s.link elapsed output input ≡ number (measuring raw elapsed output input)
+  cycle83-is : (raw elapsed : ℕ) (output input : List ℕ) → cycle83_refusal s.axis s.link elapsed output input ≡ due (measuring raw elapsed output input)
   unfolding cycle83_refusal
   cycle83-is raw elapsed output input = rw (limits-none s.axis lim, link-none)
 
   by_next : (n : Option Refusal) (b : Axis) → to s (next s.axis n b) ≡ answer (λ (i : Refusal). s) (onward s b) n
   by_next n b = through (to s) (refused s.axis) (accepted b) n
 
-  pub settled : (c : Call) → yields s c ≡ answer (λ (i : Refusal). s) (goes s c) (number c)
+  pub settled : (c : Call) → yields s c ≡ answer (λ (i : Refusal). s) (goes s c) (due c)
   unfolding read read_refusal read_raw read_raw_refusal batch preset store preset_refusal cycle cycle83 rules_on
-  settled (reading step turn) = rw (limits-none s.axis lim, read_is (raw_of s.axis.nameplate step turn)) (by_next (number (reading step turn)) _)
-  settled (raw_reading raw) = rw (limits-none s.axis lim, read_is raw) (by_next (number (raw_reading raw)) _)
-  settled (batching raws positions) = rw (batch-is raws positions) (by_next (number (batching raws positions)) _)
-  settled (presetting v relative) = rw (limits-none s.axis lim) (by_next (number (presetting v relative)) _)
-  settled (storing v) = rw (limits-none s.axis lim) (by_next (number (storing v)) _)
+  settled (reading step turn) = rw (limits-none s.axis lim, read_is (raw_of s.axis.nameplate step turn)) (by_next (due (reading step turn)) _)
+  settled (raw_reading raw) = rw (limits-none s.axis lim, read_is raw) (by_next (due (raw_reading raw)) _)
+  settled (batching raws positions) = rw (batch-is raws positions) (by_next (due (batching raws positions)) _)
+  settled (presetting v relative) = rw (limits-none s.axis lim) (by_next (due (presetting v relative)) _)
+  settled (storing v) = rw (limits-none s.axis lim) (by_next (due (storing v)) _)
   settled (cycling raw output input) =
-      rw (cycle-is raw output input) (through both (kept s.axis s.link) (done _ _) (number (cycling raw output input)))
+      rw (cycle-is raw output input) (through both (kept s.axis s.link) (done _ _) (due (cycling raw output input)))
   settled (measuring raw elapsed output input) =
-      rw (cycle83-is raw elapsed output input) (through both (kept s.axis s.link) (done _ _) (number (measuring raw elapsed output input)))
+      rw (cycle83-is raw elapsed output input) (through both (kept s.axis s.link) (done _ _) (due (measuring raw elapsed output input)))
 
   -- the lent buffers of accepted calls
-  pub list-is : (raws positions : List ℕ) → number (batching raws positions) ≡ None → batch_list s.axis raws positions ≡ positions_of s.axis raws
+  pub list-is : (raws positions : List ℕ) → due (batching raws positions) ≡ None → batch_list s.axis raws positions ≡ positions_of s.axis raws
   unfolding batch_list
   list-is raws positions e = rw (batch-is raws positions, e)
 
-  pub input-is : (raw : ℕ) (output input : List ℕ) → number (cycling raw output input) ≡ None → let b = yields s (cycling raw output input) in
+  pub input-is : (raw : ℕ) (output input : List ℕ) → due (cycling raw output input) ≡ None → let b = yields s (cycling raw output input) in
       cycle_input s.axis s.link raw output input ≡ input_of b.link b.axis output
   unfolding cycle_input cycle
   input-is raw output input e = rw (cycle-is raw output input, e)
 
-  pub input83-is : (raw elapsed : ℕ) (output input : List ℕ) → number (measuring raw elapsed output input) ≡ None → let b = yields s (measuring raw elapsed output input) in
+  pub input83-is : (raw elapsed : ℕ) (output input : List ℕ) → due (measuring raw elapsed output input) ≡ None → let b = yields s (measuring raw elapsed output input) in
       cycle83_input s.axis s.link raw elapsed output input
       ≡ input_of b.link b.axis output ++ octets 4 (complement (nist_b s.axis raw elapsed))
   unfolding cycle83_input cycle83 input83

@@ -63,7 +63,7 @@ walked s p g [] m lim k none h = (record { device = refl; ledger = refl; kept = 
 walked s p g (raw ∷ raws) m lim k none h =
     let a = s.axis in
     let both = before-none (move_refusal (rules_on a) a.shaft.last.0 raw) (refusal_in (rules_on a) raw raws) none in
-    let t = singly a lim raw 0 both.0 in
+    let t = singly a lim raw None both.0 in
     let b = onward s (at_raw a raw) in
     let b-limits : Limits (at_raw a raw) = rw t at (raw-kept a lim raw) in
     let b-kept = (stands-moved s p g lim k raw m h.0).kept in
