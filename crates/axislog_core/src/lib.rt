@@ -43,15 +43,13 @@ fn each_line(input: &[u8], output: &mut [u8]) -> usize
         × (output.new ≡ over (answers input.now) output.old) }
 {
     let mut state = State::empty();
-    let mut from = 0;
     let mut at = 0;
-    while from < input.len() {
-        let end = from + line_length(&input[from..]);
-        let reply = state.reply(parse(&input[from..end]));
-        let answer = reply.answer;
-        at = put(answer, output, at);
+    // each with its newline; the last one may have none
+    for text in input.split_inclusive(|x| *x == b'\n') {
+        let line = &text[..line_length(text)];
+        let reply = state.reply(parse(line));
+        at = put(reply.answer, output, at);
         state = reply.state;
-        from = end + 1;
     }
     at
 }
