@@ -1,7 +1,7 @@
 // axislog: a log on standard input, its answers on standard output (document 01, "The program axislog").
 #![tactic(auto)]
 
-use axislog_core::{INPUT, OUTPUT, Outcome, answer};
+use axislog_core::{INPUT, OUTPUT, answer};
 use input::fill;
 use std::io;
 use std::process::ExitCode;
@@ -34,9 +34,9 @@ fn print(rt: &(impl Print + Eprint), input: &[u8], output: &mut [u8]) -> ExitCod
 
 fn emit(rt: &impl Print, input: &[u8], output: &mut [u8]) -> io::Result<()> {
     match answer(input, output) {
-        Outcome::Written(n) => rt.write_all(&output[..n]),
+        Ok(n) => rt.write_all(&output[..n]),
         // 15: the log is too long. Not 13: the buffer has its length
-        Outcome::Refused(_) => rt.write_all(b"(refused 15)\n"),
+        Err(_) => rt.write_all(b"(refused 15)\n"),
     }
 }
 

@@ -1,12 +1,12 @@
--- A reading and a preset on a started axis. The axis is within its limits and its last raw number is the ledger's, so that a call answers the table's
--- number. Where the table takes the call, the library's run makes the same call and goes on beside the ledger after it.
-use Rattle.std.specs.Prelude.{◌≡◌, refl, Bool, true, false, not, List, [], ◌∷◌, ℕ, ℤ, Some}
+-- A reading and a preset on a started axis. The axis is within its limits and its last raw number is the ledger's, so that a call gets the table's
+-- refusal. Where the table takes the call, the library's run makes the same call and goes on beside the ledger after it.
+use Rattle.std.specs.Prelude.{◌≡◌, refl, Bool, true, false, not, List, [], ◌∷◌, ℕ, ℤ, Option, None, Some, Result, Ok, Err}
 use Rattle.std.proofs.Common.{ap, ◌∙◌}
 use Rattle.integer.specs.{◌modulo◌}
-use Rattle.encoder.specs.{NoAxis, when, ◌before◌, answer}
-use Rattle.axis_shaft.specs.{Reported, At as Found, declared.Reported.TheVariants.Refused as Outside, move_refusal, moved_to}
+use Rattle.encoder.specs.{Refusal, NoAxis, when, ◌before◌, answer}
+use Rattle.axis_shaft.specs.{Reported, move_refusal, moved_to}
 use Rattle.axis_offset.specs.{value_refusal}
-use Rattle.axis.specs.{Axis, rules_on, acceptable, axis_refusal, position_of, unshifted_of, reported, next, at_raw, read_raw, preset_refusal, presetted, preset as preset_on}
+use Rattle.axis.specs.{Axis, rules_on, acceptable, axis_refusal, positions_of, reported, next, at_raw, read_raw, preset_refusal, presetted, preset as preset_on}
 use Rattle.axis.proofs.{Limits, limits_of, limits-none, singly}
 use Rattle.accuracy.specs.{Call, raw_reading, presetting, Device, force, Ledger.Ledger, refusal_by, made, does, with_readings, put, noted, Event, TrueSteps, Supposed}
 use Rattle.accuracy.specs.{number, Reports, Rule6, read_singly, Accurate, yields, library}
@@ -16,9 +16,9 @@ use Rattle.axislog_accuracy.specs.{kept, reading, preset, due, told, Moves}
 use Rattle.axislog_accuracy.proofs.Beside.{run, Going, now, Done, stands, by_next}
 
 -- the position printed is the one reported
-told_is : (q : Reported) → told (position q) ≡ number q
-told_is (Found p u) = refl
-told_is (Outside n) = refl
+told_is : (q : Result Reported Refusal) → told (position q) ≡ number q
+told_is (Ok p) = refl
+told_is (Err r) = refl
 
 module _ (d : Device) (l : Ledger) (a : Axis) (g : Going d l a) where
   -- ---- a position is reported, so that the axis is within its limits
@@ -26,11 +26,11 @@ module _ (d : Device) (l : Ledger) (a : Axis) (g : Going d l a) where
   unfolding reported axis_refusal
   limits = limits_of a (go (acceptable a) (now d l a g))
     where
-      go : (b : Bool) → Reports d l (answer Outside (Found (record { 0 = position_of a }) (record { 0 = unshifted_of a })) (when (not b) NoAxis)) → b ≡ true
+      go : (b : Bool) → Reports d l (answer Err (Ok (positions_of a)) (when (not b) NoAxis)) → b ≡ true
       go true h = refl
       go false h = absurd h
 
-  -- the table's number is the axis' own
+  -- the table's refusal is the axis' own
   read_is : (raw : ℕ) → read_raw a raw ≡ next a (refusal_by d l (raw_reading raw)) (at_raw a raw)
   unfolding rules_on
   read_is raw =
@@ -40,12 +40,12 @@ module _ (d : Device) (l : Ledger) (a : Axis) (g : Going d l a) where
   preset-is : (v : ℤ) → preset_on a v false ≡ next a (refusal_by d l (presetting v false)) (presetted a v false)
   unfolding preset_on preset_refusal rules_on
   preset-is v =
-      ap (λ (n : ℕ). next a (n before value_refusal (rules_on a) v) (presetted a v false)) (limits-none a limits)
+      ap (λ (n : Option Refusal). next a (n before value_refusal (rules_on a) v) (presetted a v false)) (limits-none a limits)
       ∙ ap (λ (k : Device). next a (value_refusal (force k) v) (presetted a v false)) g.is
 
   module _ (m : ℤ) where
     -- ---- a call that the table takes, and that leaves axis b
-    module _ (c : Call) (b : Axis) (z : refusal_by d l c ≡ 0) (y : yields (run a) c ≡ run b) (h : Supposed d l.last (does d l c).numbers (λ i. m)) where
+    module _ (c : Call) (b : Axis) (z : refusal_by d l c ≡ None) (y : yields (run a) c ≡ run b) (h : Supposed d l.last (does d l c).numbers (λ i. m)) where
       abbrev event : Event
       event = record { call = c; steps = λ i. m }
 
@@ -61,7 +61,7 @@ module _ (d : Device) (l : Ledger) (a : Axis) (g : Going d l a) where
     started_state = record { stage = Started; axis = a }
 
     -- ---- a reading
-    read_goes : (raw : ℕ) → refusal_by d l (raw_reading raw) ≡ 0 → TrueSteps d l.last raw m → Going d (with_readings l (raw ∷ []) (λ i. m)) (at_raw a raw)
+    read_goes : (raw : ℕ) → refusal_by d l (raw_reading raw) ≡ None → TrueSteps d l.last raw m → Going d (with_readings l (raw ∷ []) (λ i. m)) (at_raw a raw)
     unfolding Supposed with_readings at_raw moved_to
     read_goes raw z h =
         record { is = g.is; last = refl; accurate = goes_on (raw_reading raw) (at_raw a raw) z (rw (read_is raw, z)) (h, tt) }
@@ -73,7 +73,7 @@ module _ (d : Device) (l : Ledger) (a : Axis) (g : Going d l a) where
         (λ z. stands d (with_readings l (raw ∷ []) (λ i. m)) (at_raw a raw) (read_goes raw z (rw z at h))))
 
     -- ---- a preset: it accepts no raw number
-    module _ (v : ℤ) (z : refusal_by d l (presetting v false) ≡ 0) where
+    module _ (v : ℤ) (z : refusal_by d l (presetting v false) ≡ None) where
       abbrev to : Axis
       to = presetted a v false
 

@@ -1,5 +1,5 @@
 -- The first reading of an axis that waits: where the table takes it, it is a start of the library's run.
-use Rattle.std.specs.Prelude.{◌≡◌, refl, ℕ, ℤ, Some}
+use Rattle.std.specs.Prelude.{◌≡◌, refl, ℕ, ℤ, None, Some}
 use Rattle.axis_shaft.specs.{nowhere, started}
 use Rattle.axis.specs.{Axis, fresh, start_raw}
 use Rattle.axis.proofs.{first as first_at}
@@ -14,7 +14,7 @@ module _ (d : Device) (raw : ℕ) where
   abbrev begun : Axis
   begun = first_at d.plate d.parameters raw
 
-  going : start_by d (first_number raw) ≡ 0 → Going d (opened d raw) begun
+  going : start_by d (first_number raw) ≡ None → Going d (opened d raw) begun
   unfolding start_raw started
   going z = record { is = refl; last = refl; accurate = λ es. rw z at (accuracy d (first_number raw) z es) }
 

@@ -14,7 +14,7 @@
 -- there refutes it of a program that refuses every line, of one that always shows 0, and of one that ignores presets.
 use Rattle.std.specs.Prelude.{◌≡◌, false, List, [], ◌∷◌, ℕ, ℤ, Option, Some, None}
 use Rattle.integer.specs.{◌modulo◌}
-use Rattle.encoder.specs.{NoForm, NoAxis, answer, refusal_on}
+use Rattle.encoder.specs.{Refusal, NoForm, NoAxis, answer, refusal_on}
 use Rattle.accuracy.specs.{first_number, raw_reading, presetting, Device, force, Ledger.Ledger, start_by, opened, refusal_by, made, with_readings, put, TrueSteps, Agrees}
 use Rattle.axislog_forms.specs.{Setup, Form, Axis, Read, Preset, form}
 use Rattle.axislog_answers.specs.{Answer, Ready, At, Refused}
@@ -41,9 +41,9 @@ pub data Book : Type 0 where
 abbrev pub device : Setup → Device
 device f = record { plate = plate_of f; parameters = parameters_of f }
 
--- ---- what a line is due: a refusal by its number, (axis ready), or the position after a first reading, a further one or a preset
+-- ---- what a line is due: a refusal, (axis ready), or the position after a first reading, a further one or a preset
 pub data Due : Type 0 where
-  refusal : (n : ℕ) → Due
+  refusal : (r : Refusal) → Due
   ready : (d : Device) → Due
   first : (d : Device) (raw : ℕ) → Due
   reading : (d : Device) (l : Ledger) (raw : ℕ) → Due
@@ -63,7 +63,7 @@ due (Some (Preset v)) (kept d l) = answer refusal (preset d l v) (refusal_by d l
 -- ---- supposed of m, where a raw number is taken after the first
 abbrev pub Moves : Due → ℤ → Type 0
 Moves (reading d l raw) m = TrueSteps d l.last raw m
-Moves (refusal n) m = Unit
+Moves (refusal r) m = Unit
 Moves (ready d) m = Unit
 Moves (first d raw) m = Unit
 Moves (preset d l v) m = Unit
@@ -72,10 +72,10 @@ Moves (preset d l v) m = Unit
 abbrev pub told : Answer → ℕ
 told (At n) = n
 told Ready = 0
-told (Refused n) = 0
+told (Refused r) = 0
 
 abbrev pub booked : Due → Book → ℤ → Answer → Book
-booked (refusal n) b m a = b
+booked (refusal r) b m a = b
 booked (ready d) b m a = waiting d
 booked (first d raw) b m a = kept d (opened d raw)
 booked (reading d l raw) b m a = kept d (with_readings l (raw ∷ []) (λ i. m))
@@ -85,13 +85,13 @@ booked (preset d l v) b m a = kept d (put (made v false) l (told a))
 abbrev pub Locates : Book → Answer → Type 0
 Locates (kept d l) (At n) = Agrees d l n
 Locates (kept d l) Ready = ⊥
-Locates (kept d l) (Refused n) = ⊥
+Locates (kept d l) (Refused r) = ⊥
 Locates none a = ⊥
 Locates (waiting d) a = ⊥
 
 -- a refusal and (axis ready) are answered as due, and after a preset the position is the one that rule 6 gives
 abbrev pub Meets : Due → Book → Answer → Type 0
-Meets (refusal n) after a = a ≡ Refused n
+Meets (refusal r) after a = a ≡ Refused r
 Meets (ready d) after a = a ≡ Ready
 Meets (first d raw) after a = Locates after a
 Meets (reading d l raw) after a = Locates after a

@@ -24,7 +24,7 @@ refuses_all = answers (λ a ours. Refused NoForm)
 abbrev pub instead : ℕ → Answer → Answer
 instead n (At position) = At n
 instead n Ready = Ready
-instead n (Refused k) = Refused k
+instead n (Refused r) = Refused r
 
 abbrev pub always0 : Program
 always0 = answers (λ a ours. instead 0 ours)

@@ -5,6 +5,7 @@ ghost use Rattle.std.specs.Prelude.{◌≡◌, ◌+◌, ◌≤◌};
 ghost use Rattle.std.specs.Prelude.{length};
 ghost use Rattle.axislog_answers.specs.{decimal, number_form, line, held};
 
+use encoder::refusal::Refusal;
 use itoa::Buffer;
 
 #[derive(Clone, Copy, PartialEq, Eq)]
@@ -13,8 +14,8 @@ pub enum Answer {
     Ready,
     // the position
     At(u32),
-    // the number of the refusal
-    Refused(u8),
+    // the refusal
+    Refused(Refusal),
 }
 
 // A line with its newline; the octets behind it are 0. The longest answer is a position of ten digits.
@@ -31,7 +32,7 @@ impl Answer {
         match self {
             Answer::Ready => fixed(b"(axis ready)\n"),
             Answer::At(position) => numbered(b"(at ", position),
-            Answer::Refused(n) => numbered(b"(refused ", n as u32),
+            Answer::Refused(refusal) => numbered(b"(refused ", refusal.number() as u32),
         }
     }
 }

@@ -1,5 +1,3 @@
 pub mod Log
 unfoldable pub use Log.{answers, answers_from, lines, outcome, written}
 pub use Log.{call_refusal, joined, line_length}
-pub use declared.Outcome.{Outcome}
-pub use declared.Outcome.TheVariants.{Refused, Written}

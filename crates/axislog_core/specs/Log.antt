@@ -1,12 +1,11 @@
 -- The answers to a log, one a line (document 01, "The program axislog").
-use Rattle.std.specs.Prelude.{ℕ, List, [], ◌∷◌, ◌++◌, cond, not, eqb, ltb, length}
+use Rattle.std.specs.Prelude.{ℕ, List, [], ◌∷◌, ◌++◌, cond, not, eqb, ltb, length, Option, Result, Ok, Err}
 use Rattle.std.specs.List.{position_or_len}
 use Rattle.integer.specs.{over}
-use Rattle.encoder.specs.{NoForm, WrongBuffer, when, ◌before◌, answer}
+use Rattle.encoder.specs.{Refusal, NoForm, WrongBuffer, when, ◌before◌, answer}
 use Rattle.axislog_forms.specs.{form}
 use Rattle.axislog_answers.specs.{text}
 use Rattle.axislog_state.specs.{State, empty, reply}
-use Rattle.axislog_core.specs.{declared.Outcome.Outcome, declared.Outcome.TheVariants.Written, declared.Outcome.TheVariants.Refused}
 
 -- an octet in front of the first line; where there is none yet, it is a line
 abbrev pub joined : ℕ → List (List ℕ) → List (List ℕ)
@@ -32,11 +31,12 @@ unfoldable pub answers : List ℕ → List ℕ
 answers input = answers_from empty (lines input)
 
 -- by the octets of the input and of the lent buffer: 15, input above 60,000; then 13, not 780,000 lent, 13 for each octet of input
-abbrev pub call_refusal : ℕ → ℕ → ℕ
+abbrev pub call_refusal : ℕ → ℕ → Option Refusal
 call_refusal input output = when (ltb 60000 input) NoForm before when (not (eqb output 780000)) WrongBuffer
 
-unfoldable pub outcome : List ℕ → List ℕ → Outcome
-outcome input output = answer Refused (Written (length (answers input))) (call_refusal (length input) (length output))
+-- how many octets the answers have, or the refusal
+unfoldable pub outcome : List ℕ → List ℕ → Result ℕ Refusal
+outcome input output = answer Err (Ok (length (answers input))) (call_refusal (length input) (length output))
 
 -- the buffer then: the answers at its start, and what was behind them; refused, it is kept
 unfoldable pub written : List ℕ → List ℕ → List ℕ

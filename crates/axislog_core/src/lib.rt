@@ -3,14 +3,14 @@
 
 ghost use Rattle.std.specs.Prelude.{◌≡◌, ◌++◌, ◌+◌, ◌≤◌, length, take};
 ghost use Rattle.integer.specs.{over};
+ghost use Rattle.encoder.specs.{checked};
 ghost use Rattle.axislog_answers.specs.{text};
 ghost use Rattle.axislog_core.specs.{answers, call_refusal, line_length, outcome, written};
 
 use axislog_answers::Answer;
 use axislog_forms::parse;
 use axislog_state::State;
-use encoder::refusal;
-use encoder::refusal::{first, when};
+use encoder::refusal::{Refusal, refuse};
 
 // The octets of the longest log that is answered.
 pub const INPUT: usize = 60_000;
@@ -18,33 +18,22 @@ pub const INPUT: usize = 60_000;
 // The octets of the lent buffer. An empty line takes one octet and its answer thirteen; no line has a longer answer for each of its octets.
 pub const OUTPUT: usize = 780_000;
 
-#[derive(Clone, Copy, PartialEq, Eq)]
-pub enum Outcome {
-    // so many octets, from the start of the buffer on
-    Written(usize),
-    Refused(u8),
-}
-
-// Answers a whole log. A refused call does not touch the buffer; an accepted one does not touch what lies behind the answers.
-pub fn answer(input: &[u8], output: &mut [u8]) -> Outcome
+// Answers a whole log, and yields how many octets the answers have. They begin at the start of the buffer, and what lies behind them is not touched.
+// A refused call does not touch the buffer.
+pub fn answer(input: &[u8], output: &mut [u8]) -> Result<usize, Refusal>
     ensures { (result ≡ outcome input.now output.old)
         × (output.new ≡ written input.now output.old) }
 {
-    let n = call_refusal(input.len(), output.len());
-    if n != 0 {
-        return Outcome::Refused(n);
-    }
-    Outcome::Written(each_line(input, output))
+    check(input.len(), output.len())?;
+    Ok(each_line(input, output))
 }
 
-// The refusal of a call by the octets of the log and of the lent buffer, 0 where it is answered.
-fn call_refusal(input: usize, output: usize) -> u8
-    ensures { result ≡ call_refusal input output }
+// Refuses a log that is too long, and a lent buffer that has not its length.
+fn check(input: usize, output: usize) -> Result<(), Refusal>
+    ensures { result ≡ checked (call_refusal input output) }
 {
-    first(
-        when(INPUT < input, refusal::FORM),
-        when(output != OUTPUT, refusal::BUFFER),
-    )
+    refuse(INPUT < input, Refusal::NoForm)?;
+    refuse(output != OUTPUT, Refusal::WrongBuffer)
 }
 
 // The answers to all lines.
@@ -54,15 +43,13 @@ fn each_line(input: &[u8], output: &mut [u8]) -> usize
         × (output.new ≡ over (answers input.now) output.old) }
 {
     let mut state = State::empty();
-    let mut from = 0;
     let mut at = 0;
-    while from < input.len() {
-        let end = from + line_length(&input[from..]);
-        let reply = state.reply(parse(&input[from..end]));
-        let answer = reply.answer;
-        at = put(answer, output, at);
+    // each with its newline; the last one may have none
+    for text in input.split_inclusive(|x| *x == b'\n') {
+        let line = &text[..line_length(text)];
+        let reply = state.reply(parse(line));
+        at = put(reply.answer, output, at);
         state = reply.state;
-        from = end + 1;
     }
     at
 }

@@ -1,8 +1,8 @@
 -- The axis of a log stays within its limits: after any lines a started axis is acceptable, so that a call on it never gets 16, and a call that is
 -- taken is answered with the position. Call by call, by the laws of axis.
-use Rattle.std.specs.Prelude.{◌≡◌, refl, List, [], ◌∷◌, true, false, ℕ, zero, suc, ℤ, Option, Some, None}
+use Rattle.std.specs.Prelude.{◌≡◌, refl, List, [], ◌∷◌, true, false, ℕ, ℤ, Option, Some, None}
 use Rattle.std.proofs.Common.{arith}
-use Rattle.encoder.specs.{answer, refusal_on}
+use Rattle.encoder.specs.{Refusal, answer, refusal_on}
 use Rattle.axis.specs.{Axis, Next, acceptable, axis_refusal, position_of, reported, start_raw, read_raw, preset as preset_on}
 use Rattle.axis.proofs.{limits_of, accepts, raw-kept, preset-kept, raw-started-kept}
 use Rattle.axislog_forms.specs.{Setup, Form, Axis as AxisForm, Read, Preset, form}
@@ -14,14 +14,14 @@ use Rattle.axislog_state.specs.{ready, set_up, read_at, read, preset_at, preset,
 abbrev pub Kept : State → Type 0
 Kept s = s.stage ≡ Started → acceptable s.axis ≡ true
 
--- ---- a reply by the number of the refusal
-by_number : (s : State) (r : Reply) (n : ℕ) → Kept s → (n ≡ 0 → Kept r.state) → Kept (answer (refused s) r n).state
-by_number s r zero k h = h refl
-by_number s r (suc n) k h = k
+-- ---- a reply by its refusal
+by_refusal : (s : State) (r : Reply) (n : Option Refusal) → Kept s → (n ≡ None → Kept r.state) → Kept (answer (refused s) r n).state
+by_refusal s r None k h = h refl
+by_refusal s r (Some e) k h = k
 
-after_kept : (s : State) (x : Next) → Kept s → (x.refusal ≡ 0 → acceptable x.axis ≡ true) → Kept (after s x).state
+after_kept : (s : State) (x : Next) → Kept s → (x.refusal ≡ None → acceptable x.axis ≡ true) → Kept (after s x).state
 unfolding after
-after_kept s x k h = by_number s (taken x.axis) x.refusal k (λ z e. h z)
+after_kept s x k h = by_refusal s (taken x.axis) x.refusal k (λ z e. h z)
 
 -- ---- each form
 unstarted-kept : (g : Stage) (f : Setup) → (g ≡ Started → ⊥) → Kept (unstarted g f)
@@ -41,7 +41,7 @@ preset-at-kept Started s v e k =
 
 reply-kept : (s : State) (f : Option Form) → Kept s → Kept (reply s f).state
 unfolding reply set_up read preset
-reply-kept s (Some (AxisForm f)) k = by_number s (ready f) (refusal_on (plate_of f) (parameters_of f)) k (λ z. unstarted-kept Waiting f (λ e. let z : ◌≡◌ {A = ℕ} 0 1 = cc in omega arith))
+reply-kept s (Some (AxisForm f)) k = by_refusal s (ready f) (refusal_on (plate_of f) (parameters_of f)) k (λ z. unstarted-kept Waiting f (λ e. let z : ◌≡◌ {A = ℕ} 0 1 = cc in omega arith))
 reply-kept s (Some (Read raw)) k = read_kept s.stage s raw refl k
 reply-kept s (Some (Preset v)) k = preset-at-kept s.stage s v refl k
 reply-kept s None k = k
@@ -59,6 +59,6 @@ pub log-kept : (ls : List (List ℕ)) → Kept (after_lines empty ls)
 log-kept ls = lines-kept empty ls (unstarted-kept NoAxis _ (λ e. let z : ◌≡◌ {A = ℕ} 0 1 = cc in omega arith))
 
 -- ---- an axis within its limits has no 16, and shows its position
-pub kept-shown : (a : Axis) → acceptable a ≡ true → (axis_refusal a ≡ 0) × (position_answer a ≡ At (position_of a))
+pub kept-shown : (a : Axis) → acceptable a ≡ true → (axis_refusal a ≡ None) × (position_answer a ≡ At (position_of a))
 unfolding axis_refusal position_answer reported
 kept-shown a e = (rw e, rw e)

@@ -1,18 +1,17 @@
 -- What each form does to the axis of a log.
 pub use borrow.Author.Rules.{rules}
-use Rattle.std.specs.Prelude.{◌≡◌, Bool, true, false, ℕ, ◌+◌, ◌*◌, ℤ}
+use Rattle.std.specs.Prelude.{◌≡◌, refl, Bool, true, false, ℕ, ◌+◌, ◌*◌, ℤ, Option, None, Some, Result, Ok, Err}
 use Rattle.std.proofs.Common.{sym, ap, ◌∙◌, arith}
 use Rattle.std.specs.Int.{w8, w64}
 use mir.Val.{Fits, SFits, to_z, of_z, bool_byte}
 use Rattle.integer.specs.{at}
 use Rattle.integer.proofs.{reads, flag-lt, at-is}
-use Rattle.encoder.specs.{Nameplate, Parameters, Class2, Units, refusal_on}
-use Rattle.encoder.proofs.{answer-no}
-use Rattle.axis_shaft.specs.{nowhere, Reported, At as Found, declared.Reported.TheVariants.Refused as Outside}
-use Rattle.axis.specs.{Axis, Next, reported, fresh, start_raw, read_raw, preset as preset_on}
+use Rattle.encoder.specs.{Nameplate, Parameters, Class2, Refusal, NoAxis as NotStarted, answer, checked, refusal_on}
+use Rattle.encoder.proofs.{answer-no, answer-yes, unrefused, refused-by}
+use Rattle.axis_shaft.specs.{nowhere}
+use Rattle.axis.specs.{Next, fresh, start_raw, read_raw, preset as preset_on, yielded}
 use Rattle.axislog_forms.specs.{Setup}
-use Rattle.axislog_answers.specs.{Ready, At, Refused}
-use Rattle.axislog_state.specs.{Stage, NoAxis, Waiting, Started, State, Reply, plate_of, parameters_of, unstarted, position_answer, refused, after, ready, set_up}
+use Rattle.axislog_state.specs.{Stage, NoAxis, Waiting, Started, State, Reply, plate_of, parameters_of, unstarted, refused, reply_by, taken, after, ready, set_up}
 use Rattle.axislog_state.specs.{read_at, read, preset_at, preset}
 
 -- ---- plate and parameters
@@ -37,57 +36,56 @@ pub unstarted-is : (g : Stage) (s : Setup) (n : Nameplate) (p : Parameters) → 
 unfolding unstarted
 unstarted-is g s n p n-is p-is = rw (n-is, p-is)
 
--- ---- the position
-module _ (a : Axis) (q : Reported) (e : q ≡ reported a) where
-  pub answer_at : (p u : Units) → q ≡ Found p u → At p.0 ≡ position_answer a
-  unfolding position_answer
-  answer_at p u v = rw (← e, v)
-
-  pub answer-outside : (n : ℕ) → q ≡ Outside n → Refused n ≡ position_answer a
-  unfolding position_answer
-  answer-outside n v = rw (← e, v)
-
 -- ---- an axis form
-module _ (s : State) (f : Setup) (t : State) (n : ℕ) where
-  number_is : n ≡ refusal_on t.axis.nameplate t.axis.parameters → t ≡ unstarted Waiting f → n ≡ refusal_on (plate_of f) (parameters_of f)
+module _ (f : Setup) (t : State) (t-is : t ≡ unstarted Waiting f) (x : Result Reply Refusal) where
+  tested : refusal_on t.axis.nameplate t.axis.parameters ≡ refusal_on (plate_of f) (parameters_of f)
   unfolding unstarted
-  number_is n-is t-is = n-is ∙ ap (λ (k : State). refusal_on k.axis.nameplate k.axis.parameters) t-is
+  tested = ap (λ (k : State). refusal_on k.axis.nameplate k.axis.parameters) t-is
 
-  pub set-up-refused : (r : Reply) → (n ≡ 0 → ⊥) → r ≡ refused s n → n ≡ refusal_on t.axis.nameplate t.axis.parameters
-      → t ≡ unstarted Waiting f → r ≡ set_up s f
+  pub set-up-refused : (r : Refusal) → Err r ≡ checked (refusal_on t.axis.nameplate t.axis.parameters) → x ≡ Err r
+      → x ≡ yielded (refusal_on (plate_of f) (parameters_of f)) (ready f)
+  set-up-refused r h x-is = answer-no Err _ x _ r (sym tested ∙ refused-by tt _ r h) x-is
+
+  pub set-up-ready : (u : Unit {0}) → Ok u ≡ checked (refusal_on t.axis.nameplate t.axis.parameters) → x ≡ Ok (ready f)
+      → x ≡ yielded (refusal_on (plate_of f) (parameters_of f)) (ready f)
+  set-up-ready u h x-is = answer-yes Err (Ok (ready f)) x _ (sym tested ∙ unrefused tt _ u h) x-is
+
+pub ruleset set-ups = (scaling-fits, class-fits, octet-fits, parameters-is, unstarted-is)
+
+-- ---- a call's reply, accepted or refused
+pub reply-is : (s : State) (r : Reply) (n : Option Refusal) → reply_by s (yielded n r) ≡ answer (refused s) r n
+reply-is s r None = refl
+reply-is s r (Some e) = refl
+
+module _ (s : State) (y : Result Reply Refusal) where
+  pub set_up_is : (f : Setup) → y ≡ yielded (refusal_on (plate_of f) (parameters_of f)) (ready f) → reply_by s y ≡ set_up s f
   unfolding set_up
-  set-up-refused r h e n-is t-is = answer-no (refused s) (ready f) r _ n (number_is n-is t-is) h e
+  set_up_is f y-is = rw y-is (reply-is s (ready f) (refusal_on (plate_of f) (parameters_of f)))
 
-  pub set-up-ready : n ≡ 0 → n ≡ refusal_on t.axis.nameplate t.axis.parameters → t ≡ unstarted Waiting f
-      → record { state = t; answer = Ready } ≡ set_up s f
-  unfolding set_up
-  set-up-ready z n-is t-is = rw (← number_is n-is t-is, z, t-is)
+  called : (x : Next) → y ≡ yielded x.refusal (taken x.axis) → reply_by s y ≡ after s x
+  unfolding after
+  called x y-is = rw y-is (reply-is s (taken x.axis) x.refusal)
 
--- ---- a reading
-module _ (s : State) (raw : ℕ) (r : Reply) where
-  pub read_none : s.stage ≡ NoAxis → r ≡ refused s 16 → r ≡ read s raw
-  unfolding read
-  read_none v e = e ∙ sym (ap (λ (g : Stage). read_at g s raw) v)
-
-  module _ (x : Next) (e : r ≡ after s x) where
-    pub read_first : s.stage ≡ Waiting → x ≡ start_raw s.axis.nameplate s.axis.parameters raw → r ≡ read s raw
+  -- ---- a reading
+  module _ (raw : ℕ) where
+    pub read_none : s.stage ≡ NoAxis → y ≡ Err NotStarted → reply_by s y ≡ read s raw
     unfolding read
-    read_first v x-is = e ∙ ap (after s) x-is ∙ sym (ap (λ (g : Stage). read_at g s raw) v)
+    read_none v y-is = ap (reply_by s) y-is ∙ sym (ap (λ (g : Stage). read_at g s raw) v)
 
-    pub read_next : s.stage ≡ Started → x ≡ read_raw s.axis raw → r ≡ read s raw
-    unfolding read
-    read_next v x-is = e ∙ ap (after s) x-is ∙ sym (ap (λ (g : Stage). read_at g s raw) v)
+    module _ (x : Next) (y-is : y ≡ yielded x.refusal (taken x.axis)) where
+      pub read_first : s.stage ≡ Waiting → x ≡ start_raw s.axis.nameplate s.axis.parameters raw → reply_by s y ≡ read s raw
+      unfolding read
+      read_first v x-is = called x y-is ∙ ap (after s) x-is ∙ sym (ap (λ (g : Stage). read_at g s raw) v)
 
--- ---- a preset
-module _ (s : State) (v : ℤ) (r : Reply) where
-  pub preset-none : (g : Stage) → s.stage ≡ g → preset_at g s v ≡ refused s 16 → r ≡ refused s 16 → r ≡ preset s v
-  unfolding preset
-  preset-none g w n e = e ∙ sym (ap (λ (h : Stage). preset_at h s v) w ∙ n)
+      pub read_next : s.stage ≡ Started → x ≡ read_raw s.axis raw → reply_by s y ≡ read s raw
+      unfolding read
+      read_next v x-is = called x y-is ∙ ap (after s) x-is ∙ sym (ap (λ (g : Stage). read_at g s raw) v)
 
-  pub preset-made : (x : Next) → r ≡ after s x → s.stage ≡ Started → x ≡ preset_on s.axis (to_z w64 (of_z w64 v)) false → SFits w64 v → r ≡ preset s v
-  unfolding preset
-  preset-made x e w x-is fits = e ∙ ap (after s) (rw (reads fits) at x-is) ∙ sym (ap (λ (g : Stage). preset_at g s v) w)
+  -- ---- a preset
+  module _ (v : ℤ) where
+    pub preset-made : (x : Next) → y ≡ yielded x.refusal (taken x.axis) → s.stage ≡ Started → x ≡ preset_on s.axis (to_z w64 (of_z w64 v)) false → SFits w64 v
+        → reply_by s y ≡ preset s v
+    unfolding preset
+    preset-made x y-is w x-is fits = called x y-is ∙ ap (after s) (rw (reads fits) at x-is) ∙ sym (ap (λ (g : Stage). preset_at g s v) w)
 
-pub ruleset set-ups = (scaling-fits, class-fits, octet-fits, parameters-is, unstarted-is, set-up-refused, set-up-ready)
-
-pub ruleset replies = (answer_at, answer-outside, read_none, read_first, read_next, preset-none, preset-made)
+pub ruleset replies = (read_none, read_first, read_next, preset-made, set_up_is)

@@ -1,8 +1,8 @@
 -- The axis of a log, and what a form does to it (document 01, "The program axislog").
-use Rattle.std.specs.Prelude.{ℕ, ◌+◌, false, true, ℤ, Option, Some, None}
+use Rattle.std.specs.Prelude.{ℕ, ◌+◌, false, true, ℤ, Option, Some, None, Result, Ok, Err}
 use Rattle.integer.specs.{at}
-use Rattle.encoder.specs.{Nameplate, Parameters, Class2, NoForm, NoAxis, answer, plain_plate, refusal_on}
-use Rattle.axis_shaft.specs.{nowhere, Reported, At as Found, declared.Reported.TheVariants.Refused as Outside}
+use Rattle.encoder.specs.{Nameplate, Parameters, Class2, Refusal, NoForm, NoAxis, answer, plain_plate, refusal_on}
+use Rattle.axis_shaft.specs.{nowhere, Reported}
 use Rattle.axis.specs.{Axis, Next, reported, fresh, start_raw, read_raw, preset as preset_on}
 use Rattle.axislog_forms.specs.{Setup, Form, Axis as AxisForm, Read, Preset}
 use Rattle.axislog_answers.specs.{Answer, Ready, At, Refused}
@@ -27,16 +27,21 @@ abbrev pub empty : State
 empty = unstarted NoAxis (record { steps = 0; turns = 0; reversed = false; scaling = false; units = 0; range = 0 })
 
 -- (at n) shows the position
-abbrev pub position : Reported → Answer
-position (Found p u) = At p.0
-position (Outside n) = Refused n
+abbrev pub position : Result Reported Refusal → Answer
+position (Ok p) = At p.position.0
+position (Err r) = Refused r
 
 unfoldable pub position_answer : Axis → Answer
 position_answer a = position (reported a)
 
 -- (refused n) shows the number; the axis stays as it was
-abbrev pub refused : State → ℕ → Reply
-refused s n = record { state = s; answer = Refused n }
+abbrev pub refused : State → Refusal → Reply
+refused s r = record { state = s; answer = Refused r }
+
+-- the reply to an accepted form, or to a refused one
+abbrev pub reply_by : State → Result Reply Refusal → Reply
+reply_by s (Ok r) = r
+reply_by s (Err r) = refused s r
 
 -- an accepted call leaves a started axis and shows its position
 abbrev pub taken : Axis → Reply

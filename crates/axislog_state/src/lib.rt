@@ -2,16 +2,18 @@
 #![tactic(auto)]
 
 ghost use Rattle.std.specs.Prelude.{◌≡◌};
-ghost use Rattle.axislog_state.specs.{empty, unstarted, parameters_of, position_answer, refused, after, set_up, read, preset, reply};
+ghost use Rattle.encoder.specs.{refusal_on};
+ghost use Rattle.axis.specs.{yielded};
+ghost use Rattle.axislog_state.specs.{empty, unstarted, plate_of, parameters_of, position_answer, refused, taken, ready, read, preset, reply, reply_by};
 
 use axis::{Axis, Next};
-use axis_shaft::{Reported, Shaft};
+use axis_shaft::Shaft;
 use axislog_answers::Answer;
 use axislog_forms::{Form, Setup};
 use encoder::nameplate::Nameplate;
 use encoder::parameters::Parameters;
 use encoder::quantity::Units;
-use encoder::refusal;
+use encoder::refusal::Refusal;
 
 #[derive(Clone, Copy, PartialEq, Eq)]
 pub enum Stage {
@@ -53,87 +55,52 @@ impl State {
         )
     }
 
-    // What a form does to the axis, and its answer. A line that is no form is refused.
+    // What a form does to the axis, and its answer. A line that is no form is refused, and what is refused keeps the axis as it was.
     pub fn reply(self, form: Option<Form>) -> Reply
         ensures { result ≡ reply self form }
     {
-        match form {
-            Some(Form::Axis(setup)) => self.set_up(setup),
-            Some(Form::Read(raw)) => self.read(raw),
-            Some(Form::Preset(value)) => self.preset(value),
-            None => self.refused(refusal::FORM),
+        self.accepted(form)
+            .unwrap_or_else(|refusal| self.refused(refusal))
+    }
+
+    // The reply to a form that is accepted.
+    fn accepted(self, form: Option<Form>) -> Result<Reply, Refusal>
+        ensures { reply_by self result ≡ reply self form }
+    {
+        match form.ok_or(Refusal::NoForm)? {
+            Form::Axis(setup) => set_up(setup),
+            Form::Read(raw) => self.read(raw),
+            Form::Preset(value) => self.preset(value),
         }
     }
 
-    // An axis form that is refused keeps the former axis.
-    fn set_up(self, setup: Setup) -> Reply
-        ensures { result ≡ set_up self setup }
+    fn read(self, raw: u32) -> Result<Reply, Refusal>
+        ensures { reply_by self result ≡ read self raw }
     {
-        let state = State::unstarted(Stage::Waiting, setup);
-        let axis = state.axis;
-        let plate = axis.nameplate;
-        let parameters = axis.parameters;
-        let n = parameters.refusal(plate);
-        if n != 0 {
-            return self.refused(n);
-        }
-        Reply {
-            state,
-            answer: Answer::Ready,
-        }
-    }
-
-    fn read(self, raw: u32) -> Reply
-        ensures { result ≡ read self raw }
-    {
-        let stage = self.stage;
         let axis = self.axis;
-        let plate = axis.nameplate;
-        let parameters = axis.parameters;
-        match stage {
-            Stage::NoAxis => self.refused(refusal::NO_AXIS),
-            Stage::Waiting => self.after(Axis::start_raw(plate, parameters, raw)),
-            Stage::Started => self.after(axis.read_raw(raw)),
+        match self.stage {
+            Stage::NoAxis => Err(Refusal::NoAxis),
+            Stage::Waiting => after(Axis::start_raw(axis.nameplate, axis.parameters, raw)),
+            Stage::Started => after(axis.read_raw(raw)),
         }
     }
 
     // Presets are absolute.
-    fn preset(self, value: i64) -> Reply
-        ensures { result ≡ preset self value }
+    fn preset(self, value: i64) -> Result<Reply, Refusal>
+        ensures { reply_by self result ≡ preset self value }
     {
-        let stage = self.stage;
-        let axis = self.axis;
-        match stage {
-            Stage::NoAxis => self.refused(refusal::NO_AXIS),
-            Stage::Waiting => self.refused(refusal::NO_AXIS),
-            Stage::Started => self.after(axis.preset(value, false)),
+        match self.stage {
+            Stage::NoAxis | Stage::Waiting => Err(Refusal::NoAxis),
+            Stage::Started => after(self.axis.preset(value, false)),
         }
     }
 
-    // The reply after a call on the axis.
-    fn after(self, next: Next) -> Reply
-        ensures { result ≡ after self next }
+    fn refused(self, refusal: Refusal) -> Reply
+        ensures { result ≡ refused self refusal }
     {
-        if next.refusal != 0 {
-            return self.refused(next.refusal);
-        }
-        let axis = next.axis;
         Reply {
-            state: State {
-                stage: Stage::Started,
-                axis,
-            },
-            answer: position_answer(axis),
-        }
-    }
-
-    fn refused(self, n: u8) -> Reply
-        ensures { result ≡ refused self n }
-    {
-        let state = self;
-        Reply {
-            state,
-            answer: Answer::Refused(n),
+            state: self,
+            answer: Answer::Refused(refusal),
         }
     }
 
@@ -153,6 +120,34 @@ impl State {
     }
 }
 
+// An accepted axis form leaves an axis that waits for its first reading.
+fn set_up(setup: Setup) -> Result<Reply, Refusal>
+    ensures { result ≡ yielded (refusal_on (plate_of setup) (parameters_of setup)) (ready setup) }
+{
+    let state = State::unstarted(Stage::Waiting, setup);
+    state.axis.parameters.check(state.axis.nameplate)?;
+    Ok(Reply {
+        state,
+        answer: Answer::Ready,
+    })
+}
+
+// The reply after a call on the axis that is accepted.
+fn after(next: Next) -> Result<Reply, Refusal>
+    ensures { result ≡ yielded next.refusal (taken next.axis) }
+{
+    match next.refusal {
+        Some(refusal) => Err(refusal),
+        None => Ok(Reply {
+            state: State {
+                stage: Stage::Started,
+                axis: next.axis,
+            },
+            answer: position_answer(next.axis),
+        }),
+    }
+}
+
 // Class 2 is on.
 fn parameters(setup: Setup) -> Parameters
     ensures { result ≡ parameters_of setup }
@@ -169,8 +164,8 @@ fn position_answer(axis: Axis) -> Answer
     ensures { result ≡ position_answer axis }
 {
     match axis.position() {
-        Reported::At { position, .. } => Answer::At(position.0),
+        Ok(reported) => Answer::At(reported.position.0),
         // never: an accepted call leaves the axis within its limits
-        Reported::Refused(n) => Answer::Refused(n),
+        Err(refusal) => Answer::Refused(refusal),
     }
 }

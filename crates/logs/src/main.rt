@@ -2,7 +2,7 @@
 // length, also for a log that is too long.
 #![tactic(auto)]
 
-use axislog_core::{OUTPUT, Outcome, answer};
+use axislog_core::{OUTPUT, answer};
 use input::fill;
 use std::fs::File;
 use std::{env, io};
@@ -53,9 +53,9 @@ fn read(
 fn run(rt: &impl Print, log: &[u8], output: &mut [u8]) -> io::Result<()> {
     let room = output.len();
     match answer(log, output) {
-        Outcome::Written(n) => rt.write_all(&output[..n]),
+        Ok(n) => rt.write_all(&output[..n]),
         // as axislog prints it
-        Outcome::Refused(n) if room == OUTPUT => println!(rt; "(refused {n})"),
-        Outcome::Refused(n) => println!(rt; "turned away with {n}"),
+        Err(refusal) if room == OUTPUT => println!(rt; "(refused {})", refusal.number()),
+        Err(refusal) => println!(rt; "turned away with {}", refusal.number()),
     }
 }

@@ -109,7 +109,7 @@ impl Bench {
             return Ok(());
         };
         let answer = diagnosis(self.axis, self.link, lent);
-        answer::diagnosed(rt, answer, lent)
+        answer::filled(rt, answer, lent)
     }
 
     // `keep`: a link that is brought: faulty, requested, error, acknowledged, executed, due, 1 or 0; counter and expected value; and the code,

@@ -7,7 +7,7 @@ use crate::word::{Class, Word};
 use encoder::nameplate::Nameplate;
 use encoder::parameters::Parameters;
 use encoder::quantity::Units;
-use parameters_reader::Received;
+use encoder::refusal::Refusal;
 use parameters_writer::write_parameters;
 use std::io;
 
@@ -24,7 +24,7 @@ pub(crate) fn run(rt: &impl Print, bench: &mut Bench, line: &[u8]) -> io::Result
 }
 
 // `telegram` and `block`: the octets of a class 2 telegram or of a class 4 block, to be read.
-pub(crate) fn read<F: FnOnce(Nameplate, &[u8]) -> Received>(
+pub(crate) fn read<F: FnOnce(Nameplate, &[u8]) -> Result<Parameters, Refusal>>(
     rt: &impl Print,
     numbers: &mut Numbers,
     reader: F,
@@ -47,7 +47,7 @@ pub(crate) fn write(rt: &impl Print, class: Class, numbers: &mut Numbers) -> io:
         return Ok(());
     };
     let answer = write_parameters(plate, parameters, lent);
-    answer::written(rt, answer, lent)
+    answer::filled(rt, answer, lent)
 }
 
 pub(crate) fn parameters(class: Class, numbers: &mut Numbers) -> Parameters {

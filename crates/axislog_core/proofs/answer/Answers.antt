@@ -3,9 +3,9 @@ use Rattle.encoder.proofs.{exits}
 use Rattle.axislog_core.specs.{outcome, written}
 use Rattle.axislog_core.proofs.answer.Goals as goal
 
-pub returns-then-n-ne0 : goal.returns-then-n-ne0
+pub returns-in_err-check : goal.returns-in_err-check
 unfolding outcome written
-returns-then-n-ne0 c = search (rules, exits)
+returns-in_err-check c = search (rules, exits)
 
 pub returns : goal.returns
 unfolding outcome written

@@ -1,22 +1,33 @@
-use Rattle.std.proofs.Common.{rules, ap, ◌+◌}
-use Rattle.axislog_core.proofs.{LogLaws.logs, LogLaws.run_more, LogLaws.run_room}
+-- The library tells where a part of the text ends: behind its first newline.
+use Rattle.std.proofs.Common.{rules, tests, ◌≡◌, take}
+use Rattle.std.specs.Prelude.{eqb}
+use Rattle.std.proofs.lemmas.List.Sorted.{answers_always}
+use Rattle.axislog_forms.specs.{form}
+use Rattle.axislog_core.specs.{line_length}
+use Rattle.axislog_core.proofs.LogLaws.{NextLine, logs, run_more, run_room}
 use Rattle.axislog_core.proofs.each_line.Goals as goal
 
-pub loop-from-init : goal.loop-from-init
-loop-from-init c = search (rules, logs)
+pub loop-text-init : goal.loop-text-init
+loop-text-init c = search (rules, logs)
 
 pub put-at-requires : goal.put-at-requires
 put-at-requires c =
-    let inv = c.loop-from.invariant in
-    let end_is = ap (λ n. c.loop-from.from + n) c.line_length.ensures.value in
-    run_room _ _ _ _ _ _ inv.1 _ c.loop-from-test.true end_is _ c.parse.ensures _ c.reply-reply.ensures inv.0
+    let inv = c.loop-text.invariant in
+    let g = c.in-Some.ensures.steps in
+    let first = g.1.2 (λ y. eqb y 10) (answers_always _ _ _ (λ f a r q h. search (rules, tests))) in
+    let next : NextLine _ _ _ = record { whole = g.0; some = g.2; i = g.1.0; long = g.1.1; first = first.1 } in
+    let form_is : c.parse.result ≡ form (take (line_length c.in-Some.text.now) c.in-Some.text.now) = rw c.line_length.ensures.value at c.parse.ensures in
+    run_room _ _ _ _ _ _ inv.1 _ _ next _ form_is _ c.reply-reply.ensures inv.0
 
-pub loop-from-preserved : goal.loop-from-preserved
-loop-from-preserved c =
-    let inv = c.loop-from.invariant in
-    let end_is = ap (λ n. c.loop-from.from + n) c.line_length.ensures.value in
-    let more = run_more _ _ _ _ _ _ inv.1 _ c.loop-from-test.true end_is _ c.parse.ensures _ c.reply-reply.ensures in
+pub loop-text-preserved : goal.loop-text-preserved
+loop-text-preserved c =
+    let inv = c.loop-text.invariant in
+    let g = c.in-Some.ensures.steps in
+    let first = g.1.2 (λ y. eqb y 10) (answers_always _ _ _ (λ f a r q h. search (rules, tests))) in
+    let next : NextLine _ _ _ = record { whole = g.0; some = g.2; i = g.1.0; long = g.1.1; first = first.1 } in
+    let form_is : c.parse.result ≡ form (take (line_length c.in-Some.text.now) c.in-Some.text.now) = rw c.line_length.ensures.value at c.parse.ensures in
+    let more = run_more _ _ _ _ _ _ inv.1 _ _ next _ form_is _ c.reply-reply.ensures in
     (inv.0, more _ _ c.put-at.ensures.0 c.put-at.ensures.1 c.put-at.auto.output)
 
 pub returns : goal.returns
-returns c = search (rules, logs)
+returns c = let none = c.in-None.ensures.steps.0 in search (rules, logs)

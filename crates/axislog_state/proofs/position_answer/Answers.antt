@@ -1,9 +1,11 @@
 use Rattle.std.proofs.Common.{rules}
-use Rattle.axislog_state.proofs.{StateLaws.replies}
+use Rattle.axislog_state.specs.{position_answer}
 use Rattle.axislog_state.proofs.position_answer.Goals as goal
 
-pub returns-in-At : goal.returns-in-At
-returns-in-At c = search (rules, replies)
+pub returns-in-Ok : goal.returns-in-Ok
+unfolding position_answer
+returns-in-Ok c = search rules
 
-pub returns-in-Refused : goal.returns-in-Refused
-returns-in-Refused c = search (rules, replies)
+pub returns-in-Err : goal.returns-in-Err
+unfolding position_answer
+returns-in-Err c = search rules
