@@ -1,5 +1,4 @@
 -- A batch of the axis is the batch of its shaft. By induction on the readings, each as if read singly.
-pub use borrow.Author.Rules.{rules}
 use Rattle.std.specs.Prelude.{◌≡◌, refl, List, [], ◌∷◌, ℕ, not, eqb, length, Option, None, Some, Result, Ok, Err}
 use Rattle.std.proofs.Common.{sym, ap, ◌∙◌, lt-ltb}
 use Rattle.std.specs.Int.{w64}

@@ -9,7 +9,7 @@ use mir.Val.{Fits, SFits, to_z, of_z}
 use Rattle.integer.proofs.{reads}
 use Rattle.ring.specs.{in_range}
 use Rattle.encoder.specs.{InForce, Refusal, Sound, WrongBuffer, NoAxis, when, ◌before◌, checked}
-use Rattle.encoder.proofs.{answer-yes, before-none, unrefused, refused-by, when-none, and_split}
+use Rattle.encoder.proofs.{answer-yes, before-none, unrefused, refused-by, when-none, and_split, or_split}
 use Rattle.axis_shaft.specs.{Shaft, inside, Inside, move_refusal, refusal_in, batch_refusal, gap, doubtful}
 use Rattle.axis_shaft.proofs.{SensorLaws.raw-lt, SensorLaws.not-doubtful, ShaftLaws.inside-true}
 
@@ -37,16 +37,12 @@ module _ (c half : ℕ) (s : List ℕ) (i last first : ℕ) (found : Bool) (so_f
 pub ruleset looks = (look-end, look-more)
 
 -- where nothing is doubtful, all readings are taken
-both_false : (a b : Bool) → (a || b) ≡ false → (a ≡ false) × (b ≡ false)
-both_false true b e = absurd (true≢false e)
-both_false false b e = (refl, e)
-
 pub taken_none : (f : InForce) (last : ℕ) (s : List ℕ) → Sound f → last < f.capacity.0 → doubtful f.capacity.0 last s ≡ false → refusal_in f last s ≡ None
 unfolding doubtful refusal_in
 taken_none f last [] so lt e = refl
 taken_none f last (raw ∷ raws) so lt e =
-    let a = both_false _ (doubtful f.capacity.0 raw raws) e in
-    let b = both_false (leb f.capacity.0 raw) _ a.0 in
+    let a = or_split _ (doubtful f.capacity.0 raw raws) e in
+    let b = or_split (leb f.capacity.0 raw) _ a.0 in
     rw (not-doubtful f last raw so lt b.0 b.1) (taken_none f raw raws so (leb-false _ _ b.0) a.1)
 
 module _ (f : InForce) (last : ℕ) (so : Sound f) where

@@ -1,5 +1,4 @@
 -- Raw numbers: the oriented number, the difference, and the move or its refusal. A move is at most C, so that every number fits its word.
-pub use borrow.Author.Rules.{rules}
 use Rattle.std.specs.Prelude.{◌≡◌, refl, Bool, true, false, cond, ℕ, zero, suc, ◌+◌, ◌-◌, ◌*◌, ◌/◌, ◌^◌, ◌≤◌, ◌<◌, ltb, leb, ℤ, pos, neg_ℤ, nat_abs, ◌-ℤ◌}
 use Rattle.std.proofs.Common.{sym, ◌∙◌, arith}
 use Rattle.std.specs.Prelude.{eqb, None, Some, Result, Ok, Err}

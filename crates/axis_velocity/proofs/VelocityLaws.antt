@@ -1,8 +1,8 @@
 -- The rate of a move. Products and quotient fit their words, since their factors are small.
-pub use borrow.Author.Rules.{rules}
 use Rattle.std.specs.Prelude.{◌≡◌, true, false, ℕ, ◌*◌, ◌^◌, ◌≤◌, ◌<◌, ℤ, pos, negsuc, nat_abs, ◌*ℤ◌, ◌≤ℤ◌}
 use Rattle.std.proofs.Common.{◌∙◌, arith, eq-eqb, ne_eqb}
 use Rattle.std.specs.Int.Signed.{lt_z, quot_z}
+use Rattle.std.specs.Int.{int_max, int_min}
 use Rattle.std.specs.Int.{w64, w32}
 use mir.Val.{Fits}
 use mir.Val.{SFits, to_z, of_z}
@@ -52,28 +52,30 @@ within-fits : (z : ℤ) → least ≤ℤ z → z ≤ℤ greatest → SFits w32 z
 within-fits (pos a) l g = record { sfits = omega signed }
 within-fits (negsuc a) l g = record { sfits = omega signed }
 
-limited-fits : (q : ℤ) → lt_z q least ≡ false → lt_z greatest q ≡ false → SFits w32 q
-limited-fits q l g = within-fits q (omega signed) (omega signed)
+within-wide : (z : ℤ) → least ≤ℤ z → z ≤ℤ greatest → SFits w64 z
+within-wide (pos a) l g = record { sfits = omega signed }
+within-wide (negsuc a) l g = record { sfits = omega signed }
 
-module _ (q : ℤ) (fits : SFits w64 q) where
-  pub limited-least : lt_z (to_z w64 (of_z w64 q)) least ≡ true → least ≡ clamp least greatest q
-  unfolding clamp
-  limited-least t = rw (rw (reads fits) at t)
+-- the library's clamp is document 01's
+max-min : (l g z : ℤ) → l ≤ℤ g → int_max l (int_min z g) ≡ clamp l g z
+unfolding clamp
+max-min l g z h = grind arith
 
-  module _ (l : lt_z (to_z w64 (of_z w64 q)) least ≡ false) where
-    pub limited-greatest : lt_z greatest (to_z w64 (of_z w64 q)) ≡ true → greatest ≡ clamp least greatest q
-    unfolding clamp
-    limited-greatest t = rw (rw (reads fits) at l, rw (reads fits) at t)
+module _ (q r : ℤ) (fits : SFits w64 q) (r-is : r ≡ int_max least (int_min (to_z w64 (of_z w64 q)) greatest)) where
+  clamped : r ≡ clamp least greatest q
+  clamped = r-is ∙ rw (reads fits) (max-min least greatest q (omega signed))
 
-    module _ (g : lt_z greatest (to_z w64 (of_z w64 q)) ≡ false) where
-      pub limited-cast : SFits w32 (to_z w64 (of_z w64 q))
-      limited-cast = rw (reads fits) (limited-fits q (rw (reads fits) at l) (rw (reads fits) at g))
+  narrow : SFits w32 r
+  narrow = let c = clamp-within least greatest q (omega signed) in rw clamped (within-fits (clamp least greatest q) c.0 c.1)
 
-      pub limited-is : to_z w32 (of_z w32 (to_z w64 (of_z w64 q))) ≡ clamp least greatest q
-      unfolding clamp
-      limited-is = rw (reads limited-cast, reads fits, rw (reads fits) at l, rw (reads fits) at g)
+  wide : SFits w64 r
+  wide = let c = clamp-within least greatest q (omega signed) in rw clamped (within-wide (clamp least greatest q) c.0 c.1)
 
-pub ruleset limits = (limited-least, limited-greatest, limited-cast, limited-is)
+  pub limited-cast : SFits w32 (to_z w64 (of_z w64 r))
+  limited-cast = rw (reads wide) narrow
+
+  pub limited-is : to_z w32 (of_z w32 (to_z w64 (of_z w64 r))) ≡ clamp least greatest q
+  limited-is = rw (reads wide, reads narrow) clamped
 
 -- ---- d × factor / (R × e)
 module _ (d : ℤ) (k : ℕ) (fits : SFits w64 d) (d-most : nat_abs d ≤ 2 ^ 31) (k-most : k ≤ 65536000) where

@@ -61,27 +61,17 @@ fn factor(rules: InForce) -> u64
     ensures { (result ≡ factor_of rules) × (result ≤ 65536000) }
 {
     let scale = rules.scale.0 as u64;
-    if rules.speed == 0 {
-        return scale * 1000;
+    match rules.speed {
+        0 => scale * 1000,
+        1 => scale * 100,
+        2 => scale * 10,
+        _ => 60000,
     }
-    if rules.speed == 1 {
-        return scale * 100;
-    }
-    if rules.speed == 2 {
-        return scale * 10;
-    }
-    60000
 }
 
 // q, limited to signed 32 bits.
 fn limited(q: i64) -> i32
     ensures { result ≡ clamp least greatest q }
 {
-    if q < -0x8000_0000 {
-        return -0x8000_0000;
-    }
-    if 0x7fff_ffff < q {
-        return 0x7fff_ffff;
-    }
-    q as i32
+    q.clamp(-0x8000_0000, 0x7fff_ffff) as i32
 }

@@ -1,5 +1,4 @@
 -- What each form does to the axis of a log.
-pub use borrow.Author.Rules.{rules}
 use Rattle.std.specs.Prelude.{◌≡◌, refl, Bool, true, false, ℕ, ◌+◌, ◌*◌, ℤ, Option, None, Some, Result, Ok, Err}
 use Rattle.std.proofs.Common.{sym, ap, ◌∙◌, arith}
 use Rattle.std.specs.Int.{w8, w64}

@@ -1,5 +1,4 @@
 -- What holds of a nameplate that is not refused: its bounds, one by one, the due length of a lent buffer, and that its capacity fits.
-pub use borrow.Author.Rules.{rules}
 use Rattle.std.specs.Prelude.{◌≡◌, refl, Bool, true, false, ◌&&◌, not, ℕ, ◌*◌, ◌^◌, ◌≤◌, eqb, Option, None, Some}
 use Rattle.std.proofs.Common.{arith, leb-true, eqb-true, eq-eqb}
 use Rattle.std.proofs.lemmas.Bool.{false≢true}

@@ -44,7 +44,7 @@ fits-of f s =
     )
 
 -- ---- rows 4 and 5, of accepted parameters
-or_split : (a b : Bool) → (a || b) ≡ false → (a ≡ false) × (b ≡ false)
+pub or_split : (a b : Bool) → (a || b) ≡ false → (a ≡ false) × (b ≡ false)
 or_split false b e = (refl, e)
 or_split true b e = absurd (true≢false e)
 

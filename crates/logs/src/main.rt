@@ -55,7 +55,7 @@ fn run(rt: &impl Print, log: &[u8], output: &mut [u8]) -> io::Result<()> {
     match answer(log, output) {
         Ok(n) => rt.write_all(&output[..n]),
         // as axislog prints it
-        Err(refusal) if room == OUTPUT => println!(rt; "(refused {})", refusal.number()),
+        Err(refusal) if room == OUTPUT => println!(rt; "({refusal})"),
         Err(refusal) => println!(rt; "turned away with {}", refusal.number()),
     }
 }

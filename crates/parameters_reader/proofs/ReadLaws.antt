@@ -1,5 +1,4 @@
 -- What a reader has tested before it reads an octet, and what it finds in the octets: the ident and the parameters.
-pub use borrow.Author.Rules.{rules}
 use Rattle.std.specs.Prelude.{◌≡◌, not, List, ℕ, ◌%◌, ◌^◌, eqb, length, get_or, take, drop, Option, None, Some, Result, Err}
 use Rattle.std.proofs.Common.{sym, ◌∙◌, arith, eqb-true}
 use Rattle.integer.specs.{big_endian}

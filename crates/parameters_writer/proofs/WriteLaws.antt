@@ -1,5 +1,4 @@
 -- What the writer leaves in the buffer, and what it has tested before.
-pub use borrow.Author.Rules.{rules}
 use Rattle.std.specs.Prelude.{◌≡◌, List, ℕ, length, take, drop, set, None, Some}
 use Rattle.std.proofs.Common.{◌∙◌}
 use borrow.Rule.Slice.PartMut.{put_mid}

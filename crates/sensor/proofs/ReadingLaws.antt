@@ -1,5 +1,4 @@
 -- An accepted reading has a raw number below C, which fits 32 bits.
-pub use borrow.Author.Rules.{rules}
 use Rattle.std.specs.Prelude.{◌≡◌, ℕ, ◌+◌, ◌*◌, ◌≤◌, ◌<◌, ◌^◌, leb, None, Some, Result, Ok, Err}
 use Rattle.std.proofs.Common.{arith, leb-false}
 use Rattle.std.specs.Int.{w64, w32}
