@@ -6,7 +6,7 @@ mod preset;
 mod reading;
 
 ghost use Rattle.std.specs.Prelude.{◌≡◌};
-ghost use Rattle.axis.specs.{in_force_on, next_by};
+ghost use Rattle.axis.specs.{in_force_on, next_by, yielded};
 
 use axis_shaft::Shaft;
 use encoder::effect::{InForce, in_force};
@@ -55,6 +55,16 @@ impl Axis {
 }
 
 impl Next {
+    // The axis that a call yields, where it was taken.
+    pub fn taken(self) -> Result<Axis, Refusal>
+        ensures { result ≡ yielded self.refusal self.axis }
+    {
+        match self.refusal {
+            None => Ok(self.axis),
+            Some(refusal) => Err(refusal),
+        }
+    }
+
     // The answer by the axis that a call on `axis` yields.
     pub fn of(axis: Axis, yielded: Result<Axis, Refusal>) -> Next
         ensures { result ≡ next_by axis yielded }

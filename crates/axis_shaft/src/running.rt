@@ -99,12 +99,9 @@ impl Shaft {
     {
         let lead = lead_of(rules);
         let mut running = self.running(rules);
-        let mut i = 0;
-        while i < raws.len() {
-            let raw = raws[i];
-            running = running.moved(rules, lead, raw);
+        for i in 0..raws.len() {
+            running = running.moved(rules, lead, raws[i]);
             positions[i] = running.position(rules, offset);
-            i += 1;
         }
         running.shaft(rules)
     }

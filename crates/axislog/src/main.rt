@@ -1,24 +1,15 @@
 // axislog: a log on standard input, its answers on standard output (document 01, "The program axislog").
 #![tactic(auto)]
 
-ghost use Rattle.axislog.specs.{Within};
-
 use axislog_core::{INPUT, OUTPUT, answer};
+use input::fill;
 use std::io;
-use std::io::Read;
 use std::process::ExitCode;
 
 // The buffer for the log holds more than the longest one, so that the program notices a longer one.
 const ROOM: usize = 65_536;
 
 const _: () = prove!(INPUT < ROOM);
-
-#[derive(Drop)]
-pub enum Input {
-    // so many octets
-    Read(usize),
-    Failed,
-}
 
 fn main(rt: HostRuntime) -> ExitCode {
     let mut input = [0u8; ROOM];
@@ -29,24 +20,9 @@ fn main(rt: HostRuntime) -> ExitCode {
 // The whole arrays are lent first: their types tell their lengths.
 fn run(rt: &HostRuntime, input: &mut [u8; ROOM], output: &mut [u8; OUTPUT]) -> ExitCode {
     match fill(&mut rt.stdin(), input) {
-        Input::Read(n) => print(rt, &input[..n], output),
-        Input::Failed => complain(rt, "axislog: standard input cannot be read"),
+        Ok(n) => print(rt, &input[..n], output),
+        Err(_) => complain(rt, "axislog: standard input cannot be read"),
     }
-}
-
-// Reads until the input ends, a read fails or the buffer is full.
-fn fill<R: Read>(input: &mut R, buffer: &mut [u8]) -> Input
-    ensures { Within result buffer.new }
-{
-    let mut n = 0;
-    while n < buffer.len() {
-        match input.read(&mut buffer[n..]) {
-            Ok(0) => return Input::Read(n),
-            Ok(more) => n += more,
-            Err(_) => return Input::Failed,
-        }
-    }
-    Input::Read(n)
 }
 
 fn print(rt: &(impl Print + Eprint), input: &[u8], output: &mut [u8]) -> ExitCode {

@@ -11,7 +11,7 @@ use Rattle.cyclic_link.specs.{Link, Class2.due, Class2.made, Class2.link}
 use Rattle.cyclic_link.proofs.{due-risen, due-still, makes, passes, rests, spent, waits}
 use Rattle.cyclic.specs.{taken_at, word_of, Class2.axis, Class2.input, cycle_refusal, link_after, class4, axis_after, input_of, link_left, done, cycle, cycle_input}
 use Rattle.cyclic.specs.Correction.{Exchange, answered, filled, link_behind, Up, faulty, sent, range, Waits, Each, NoPreset}
-use Rattle.cyclic.proofs.CycleKept.{read_same, after_same}
+use Rattle.cyclic.proofs.CycleKept.{by-made, read_same, after_same}
 use native.Mathlib.Nat as N
 use Rattle.cyclic_link.specs.Class2 as Link2
 
@@ -35,7 +35,7 @@ module _ (k : Link) (x : Exchange) (u : Up k x) where
   axis-by : (b : Bool) → made (rules_on x.axis) k (faulty x) word ≡ b
       → (answered k x).axis ≡ cond b (presetted (taken_at x.axis x.raw) (pos (sent x)) false) (taken_at x.axis x.raw)
   unfolding axis_after axis
-  axis-by b b-is = rw (taken_is, u.class2, taken-rules, b-is)
+  axis-by b b-is = rw (taken_is, u.class2, taken-rules, b-is) (by-made _ _ b)
 
   unmoved : made (rules_on x.axis) k (faulty x) word ≡ false → (answered k x).axis ≡ (read_raw x.axis x.raw).axis
   unfolding taken_at

@@ -1,17 +1,22 @@
 -- A cycle keeps nameplate and parameters, and so what is in force. It keeps the axis within its limits, since it is a reading and a preset whose value
 -- was tested, or held within them.
 use Rattle.std.specs.Prelude.{◌≡◌, refl, Bool, true, false, cond, List, ℕ, Option, None, Some, ◌<◌, ℤ, nat_abs}
+use Rattle.std.specs.Bool.{then_some}
 use Rattle.std.proofs.Common.{◌∙◌}
 use Rattle.std.proofs.lemmas.Bool.{false≢true}
 use Rattle.encoder.specs.{Parameters, InForce, Refusal}
 use Rattle.axis.specs.{Axis, Next, rules_on, Ready, next, at_raw, read_raw, read_raw_refusal, presetted}
 use Rattle.axis.proofs.{Limits, limits_of, accepts, raw-kept, presetted-kept}
-use Rattle.cyclic_link.specs.{Life, Link, within, Class2.link as link2, Class4.link as link4, Classes.reaction}
+use Rattle.cyclic_link.specs.{Life, Link, Preset, Possible, within, Class2.link as link2, Class4.link as link4, Classes.reaction}
 use Rattle.cyclic_link.proofs.{possible, link-kept}
 use Rattle.cyclic.specs.{faulty_at, taken_at, preset_by, word_of, Class2.axis as axis2, counted, Class4.axis as axis4, heard_in, stopped_in, class4, life, control_by, cycle_refusal, link_after, axis_after, link_left}
 use Rattle.cyclic.specs.{cycled, cycle, cycle83_refusal, cycle83}
 
 -- ---- the axis after a cycle: with its preset, if one is made; the same for both classes
+pub by-made : (b : Axis) (o : Preset) (made : Bool) → preset_by b (then_some made o) ≡ cond made (presetted b o.value o.relative) b
+by-made b o true = refl
+by-made b o false = refl
+
 after-by : (class : Bool) (w : Life) (b : Axis) (k : Link) (faulty : Bool) (output : List ℕ)
     → cond class (axis4 b (heard_in w k output) (stopped_in w k output) faulty (counted output)) (axis2 b k faulty (word_of output))
     ≡ preset_by b (reaction class w (rules_on b) k faulty (control_by class output) b.stored).preset
@@ -53,10 +58,10 @@ read_same a raw = by (read_raw_refusal a raw)
     by None = (refl, refl)
     by (Some r) = (refl, refl)
 
-pub preset-same : (a b : Axis) (v : ℤ) (relative made : Bool) → Same a b → Same a (cond made (presetted b v relative) b)
+pub preset-same : (a b : Axis) (o : Option Preset) → Same a b → Same a (preset_by b o)
 unfolding presetted
-preset-same a b v relative true s = s
-preset-same a b v relative false s = s
+preset-same a b (Some o) s = s
+preset-same a b None s = s
 
 pub after_same : (a : Axis) (k : Link) (raw : ℕ) (output : List ℕ) → Same a (axis_after a k raw output)
 unfolding taken_at
@@ -64,7 +69,7 @@ after_same a k raw output =
     let b = (read_raw a raw).axis in
     let class = class4 a.parameters in
     let o = (reaction class (life a.parameters) (rules_on b) k (faulty_at a raw) (control_by class output) b.stored).preset in
-    rw (after_is a k raw output) (preset-same a b o.value o.relative o.made (read_same a raw))
+    rw (after_is a k raw output) (preset-same a b o (read_same a raw))
 
 -- ---- an answer without a refusal
 pub cycled-none : (a b : Axis) (k j : Link) (n : Option Refusal) → (cycled a k b j n).refusal ≡ None → n ≡ None
@@ -72,10 +77,9 @@ cycled-none a b k j None e = refl
 cycled-none a b k j (Some r) e = e
 
 -- ---- the limits
-preset-by : (a : Axis) (v : ℤ) (relative made : Bool) → Limits a → (made ≡ true → nat_abs v < (rules_on a).span.0)
-    → Limits (cond made (presetted a v relative) a)
-preset-by a v relative true l h = presetted-kept a l v relative (h refl)
-preset-by a v relative false l h = l
+preset-kept : (a : Axis) (o : Option Preset) → Limits a → Possible (rules_on a) o → Limits (preset_by a o)
+preset-kept a (Some o) l h = presetted-kept a l o.value o.relative h.below
+preset-kept a None l h = l
 
 after_kept : (a : Axis) (k : Link) (raw : ℕ) (output : List ℕ) → Limits a → Limits (axis_after a k raw output)
 unfolding taken_at
@@ -85,7 +89,7 @@ after_kept a k raw output l =
     let m = raw-kept a l raw in
     let o = (reaction class (life a.parameters) (rules_on b) k (faulty_at a raw) (control_by class output) b.stored).preset in
     let p = possible class (life a.parameters) (rules_on b) k (faulty_at a raw) (control_by class output) b.stored m.stored in
-    rw (after_is a k raw output) (preset-by b o.value o.relative o.made m p.below)
+    rw (after_is a k raw output) (preset-kept b o m p)
 
 by_refusal : (a b : Axis) (k j : Link) (n : Option Refusal) → Limits a → Limits b → Limits (cycled a k b j n).axis
 by_refusal a b k j None l m = m

@@ -72,7 +72,7 @@ module _ (w : Life) (f : InForce) (k : Link) (output : List ℕ) (g : Fields) (x
 
   module _ (b : Standing) (b-is : b ≡ standing (preset_by x.axis q.preset)) where
     pub left-fields : g ≡ fields_of x.axis.parameters → g ≡ fields_of b.axis.parameters
-    left-fields g-is = rw (b-is, (preset-same x.axis x.axis q.preset.value q.preset.relative q.preset.made (refl, refl)).1) g-is
+    left-fields g-is = rw (b-is, (preset-same x.axis x.axis q.preset (refl, refl)).1) g-is
 
     pub left-standing : b ≡ standing b.axis
     left-standing = rw b-is

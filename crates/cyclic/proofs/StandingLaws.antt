@@ -1,7 +1,6 @@
 -- The raw number and the preset of a cycle. Nothing refuses a preset that is made, and the position after it is the one that it asks for.
 use Rattle.std.specs.Prelude.{◌≡◌, refl, true, false, not, ℕ, ◌<◌, ℤ, pos, nat_abs, ◌+ℤ◌, ◌-ℤ◌, T, Result, Ok, Err, IsOk}
 use Rattle.std.proofs.Common.{ap, arith, ◌∙◌}
-use Rattle.std.proofs.lemmas.Bool.{not-false, not-true}
 use Rattle.std.specs.Int.Signed.{non_neg}
 use Rattle.std.specs.Int.{w64, w32}
 use mir.Val.{Fits, SFits}
@@ -14,8 +13,8 @@ use Rattle.axis_shaft.specs.{Shaft, Reported, moved_to, shaft_refusal, moved, re
 use Rattle.axis_offset.specs.{offset_by}
 use Rattle.axis.specs.{Axis, rules_on, Ready, unshifted_of, positions_of, accepted, refused, with_shaft, at_raw, read_raw_refusal, read_raw, asked, shifted, presetted}
 use Rattle.axis.proofs.{Limits, limits_of, apart-lt, asked-lt, put_is, unshifted-lt, ready-reported, reported-is, position-is, shifted-is, stands-none}
-use Rattle.cyclic_link.specs.{Preset, Possible}
-use Rattle.cyclic.specs.{Standing, preset_by, standing}
+use Rattle.cyclic_link.specs.{Preset, Allowed}
+use Rattle.cyclic.specs.{Standing, standing}
 use Rattle.cyclic.proofs.CycleKept.{read-ready}
 
 -- ---- the raw number
@@ -39,15 +38,15 @@ module _ (a : Axis) (f : InForce) (r : Ready a f) where
   pub has-position : (q : Result Reported Refusal) → q ≡ reported_at f (to_z w64 (of_z w64 a.offset)) a.shaft → IsOk q
   has-position q q-is = rw (ready-reported a f q r q-is ∙ reported-is a (limits_of a r.stands)) refl
 
-  module _ (q : Reported) (q-is : Ok q ≡ reported_at f (to_z w64 (of_z w64 a.offset)) a.shaft) (o : Preset) where
+  module _ (q : Reported) (q-is : Ok q ≡ reported_at f (to_z w64 (of_z w64 a.offset)) a.shaft) where
     here : q ≡ positions_of a
     here = position-is a f r q (ready-reported a f (Ok q) r q-is)
 
-    pub stands-still : not o.made ≡ true → ◌≡◌ {A = Standing} (record { axis = a; position = q.position; unshifted = q.unshifted }) (standing (preset_by a o))
-    stands-still t = rw (not-true o.made t, here)
+    pub stands-still : ◌≡◌ {A = Standing} (record { axis = a; position = q.position; unshifted = q.unshifted }) (standing a)
+    stands-still = rw here
 
     -- a new offset z
-    module _ (p : Possible f o) (t : not o.made ≡ false) (z : ℤ) (z-is : z ≡ offset_by f.span.0 q.position.0 q.unshifted.0 (to_z w64 (of_z w64 o.value)) o.relative) where
+    module _ (o : Preset) (p : Allowed f o) (z : ℤ) (z-is : z ≡ offset_by f.span.0 q.position.0 q.unshifted.0 (to_z w64 (of_z w64 o.value)) o.relative) where
       limits : Limits a
       limits = limits_of a r.stands
 
@@ -59,7 +58,7 @@ module _ (a : Axis) (f : InForce) (r : Ready a f) where
       to-lt = rw r.is (asked-lt a limits o.value o.relative)
 
       value-fits : SFits w64 o.value
-      value-fits = fits-abs o.value (omega (arith, p.below (not-false _ t), r.shaft.sound.span-most))
+      value-fits = fits-abs o.value (omega (arith, p.below, r.shaft.sound.span-most))
 
       shift : shifted a z (to_z w64 (of_z w64 o.value)) ≡ presetted a o.value o.relative
       shift = shifted-is a f r o.value value-fits q q-is o.relative z z-is
@@ -101,7 +100,7 @@ module _ (a : Axis) (f : InForce) (r : Ready a f) where
       unfolding presetted unshifted_of rules_on
       unshifted-kept = refl
 
-      pub stands-there : ◌≡◌ {A = Standing} (record { axis = shifted a (to_z w64 (of_z w64 z)) (to_z w64 (of_z w64 o.value)); position = record { 0 = nat_abs (to_z w64 (of_z w64 sum)) }; unshifted = q.unshifted }) (standing (preset_by a o))
-      stands-there = rw (sum_is, reads to-fits, reads offset-fits, shift, not-false o.made t, put_is a limits o.value o.relative, unshifted-kept, here)
+      pub stands-there : ◌≡◌ {A = Standing} (record { axis = shifted a (to_z w64 (of_z w64 z)) (to_z w64 (of_z w64 o.value)); position = record { 0 = nat_abs (to_z w64 (of_z w64 sum)) }; unshifted = q.unshifted }) (standing (presetted a o.value o.relative))
+      stands-there = rw (sum_is, reads to-fits, reads offset-fits, shift, put_is a limits o.value o.relative, unshifted-kept, here)
 
 pub ruleset presets = (stands-still, sum_fits, sum-positive, sum-32, stands-there)

@@ -71,19 +71,19 @@ pub(crate) fn measure(axis: Axis, rules: InForce, raw: u32, elapsed: u16) -> Mea
 }
 
 // Makes the preset, if there is one. The position is scaled once: after a preset it is unshifted position + new offset.
-pub(crate) fn preset(axis: Axis, rules: InForce, asked: Preset) -> Standing
+pub(crate) fn preset(axis: Axis, rules: InForce, asked: Option<Preset>) -> Standing
     requires { Ready axis rules × Possible rules asked }
     ensures { result ≡ standing (preset_by axis asked) }
 {
     // an axis within its limits always has a position
     let at = axis.shaft.reported(rules, axis.offset).unwrap();
-    if !asked.made {
+    let Some(asked) = asked else {
         return Standing {
             axis,
             position: at.position,
             unshifted: at.unshifted,
         };
-    }
+    };
     let offset = offset_by(
         asked.value,
         asked.relative,

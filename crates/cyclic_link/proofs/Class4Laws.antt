@@ -1,5 +1,6 @@
 -- Class 4: the next link, the preset and the status word. The bits of the status word do not overlap, so that `or` is a sum.
-use Rattle.std.specs.Prelude.{◌≡◌, Bool, true, not, ◌&&◌, ◌||◌, ℕ, ◌+◌, ◌*◌, ◌/◌, ◌%◌, ◌^◌, ◌<◌, eqb, ℤ}
+use Rattle.std.specs.Prelude.{◌≡◌, Bool, true, not, ◌&&◌, ◌||◌, ℕ, ◌+◌, ◌*◌, ◌/◌, ◌%◌, ◌^◌, ◌<◌, eqb, ℤ, Option}
+use Rattle.std.specs.Bool.{then_some}
 use Rattle.std.proofs.Common.{◌∙◌, arith}
 use Rattle.std.specs.Int.{w64}
 use mir.Val.{SFits, to_z, of_z, bool_byte}
@@ -7,24 +8,25 @@ use Rattle.integer.specs.{bit}
 use Rattle.integer.proofs.{reads, flag-lt, at-is}
 use Rattle.encoder.specs.{InForce}
 use Rattle.encoder.proofs.{and_split}
-use Rattle.cyclic_link.specs.{Link, Reaction, Class4.asked, code_by, code, held, Class4.made, Class4.link, Class4.reaction, zsw}
+use Rattle.cyclic_link.specs.{Link, Preset, Reaction, Class4.asked, code_by, code, held, Class4.made, Class4.link, Class4.reaction, zsw}
 use lib.{Bits.bit_or, Bits.or_shifted}
 use native.Mathlib.Nat as N
 
 module _ (f : InForce) (k : Link) (stopped faulty : Bool) (w : ℕ) where
-  pub reaction-is : (acknowledge asks park relative : Bool) (n : ℕ) (s : ℤ) → acknowledge ≡ bit 15 w → asks ≡ bit 12 w → park ≡ bit 14 w
+  pub reaction-is : (acknowledge asks park relative : Bool) (n : ℕ) (s : ℤ) (o : Option Preset) → acknowledge ≡ bit 15 w → asks ≡ bit 12 w → park ≡ bit 14 w
       → n ≡ code_by k stopped faulty park acknowledge → relative ≡ bit 11 w → SFits w64 s
       → let error = not (eqb n 0) in
       let m = not k.requested && asks && f.enabled && not error && not faulty in
+      o ≡ then_some m (record { value = to_z w64 (of_z w64 s); relative = relative }) →
       ◌≡◌ {A = Reaction}
       (record {
         link = record { faulty = faulty; requested = asks; error = error; acknowledged = error && acknowledge; executed = asks && (m || k.executed); due = k.due; counter = k.counter; expected = k.expected; code = n };
-        preset = record { made = m; value = to_z w64 (of_z w64 s); relative = relative };
+        preset = o;
       })
       (reaction f k stopped faulty w s)
   unfolding code made link
-  reaction-is acknowledge asks park relative n s a-is asks-is p-is n-is relative-is fits =
-      rw (n-is, a-is, asks-is, p-is, relative-is, reads fits)
+  reaction-is acknowledge asks park relative n s o a-is asks-is p-is n-is relative-is fits o_is =
+      rw (o_is, n-is, a-is, asks-is, p-is, relative-is, reads fits)
 
   -- ---- a preset that is made: the class is on
   pub made-on : made f k stopped faulty w ≡ true → f.enabled ≡ true

@@ -1,6 +1,7 @@
 -- What a cycle of class 2 makes of its output word (document 01, "One cycle", its second paragraph). By request 2 a preset that could not be made at once
 -- is due while bit 31 stays up.
-use Rattle.std.specs.Prelude.{ℕ, ◌%◌, ◌^◌, Bool, false, not, ◌&&◌, ◌||◌, ltb, pos}
+use Rattle.std.specs.Prelude.{ℕ, ◌%◌, ◌^◌, Bool, false, not, ◌&&◌, ◌||◌, ltb, pos, Option}
+use Rattle.std.specs.Bool.{then_some}
 use Rattle.integer.specs.{bit}
 use Rattle.encoder.specs.{InForce}
 use Rattle.cyclic_link.specs.{declared.Link.Link, declared.Preset.Preset, declared.Reaction.Reaction}
@@ -41,9 +42,9 @@ link f k faulty word =
       code = k.code;
     }
 
--- the preset; then link and preset together
-abbrev pub preset : InForce → Link → Bool → ℕ → Preset
-preset f k faulty word = record { made = made f k faulty word; value = pos (value word); relative = false }
+-- the preset, if one is made; then link and preset together
+abbrev pub preset : InForce → Link → Bool → ℕ → Option Preset
+preset f k faulty word = then_some (made f k faulty word) (record { value = pos (value word); relative = false })
 
 abbrev pub reaction : InForce → Link → Bool → ℕ → Reaction
 reaction f k faulty word = record { link = link f k faulty word; preset = preset f k faulty word }

@@ -1,6 +1,7 @@
 -- What a cycle of class 4 makes of G1_STW, as counted, and G1_ZSW (document 01, "One cycle", the table and the text below it). By request 3 an error has a
 -- code. The link is that once the cycle is counted, and `stopped` tells that its counter stands at its stop.
-use Rattle.std.specs.Prelude.{ℕ, ◌+◌, Bool, cond, not, ◌&&◌, ◌||◌, eqb, ℤ}
+use Rattle.std.specs.Prelude.{ℕ, ◌+◌, Bool, cond, not, ◌&&◌, ◌||◌, eqb, ℤ, Option}
+use Rattle.std.specs.Bool.{then_some}
 use Rattle.integer.specs.{bit, at}
 use Rattle.encoder.specs.{InForce}
 use Rattle.cyclic_link.specs.{declared.Link.Link, declared.Preset.Preset, declared.Reaction.Reaction}
@@ -78,9 +79,9 @@ link f k stopped faulty word =
       code = code k stopped faulty word;
     }
 
--- the preset, of the held preset value; then link and preset together
-abbrev pub preset : InForce → Link → Bool → Bool → ℕ → ℤ → Preset
-preset f k stopped faulty word stored = record { made = made f k stopped faulty word; value = stored; relative = relative word }
+-- the preset, of the held preset value, if one is made; then link and preset together
+abbrev pub preset : InForce → Link → Bool → Bool → ℕ → ℤ → Option Preset
+preset f k stopped faulty word stored = then_some (made f k stopped faulty word) (record { value = stored; relative = relative word })
 
 abbrev pub reaction : InForce → Link → Bool → Bool → ℕ → ℤ → Reaction
 reaction f k stopped faulty word stored = record { link = link f k stopped faulty word; preset = preset f k stopped faulty word stored }

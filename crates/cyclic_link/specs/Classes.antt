@@ -1,5 +1,5 @@
 -- What a cycle of either class makes of what the control sends: the next link, and the preset (document 01, "One cycle").
-use Rattle.std.specs.Prelude.{◌<◌, ◌≡◌, Bool, true, cond, ℤ, nat_abs}
+use Rattle.std.specs.Prelude.{◌<◌, ◌≡◌, Bool, true, cond, ℤ, nat_abs, Option, None, Some}
 use Rattle.encoder.specs.{InForce}
 use Rattle.cyclic_link.specs.{declared.Link.Link, declared.Life.Life, declared.Control.Control, declared.Preset.Preset, declared.Reaction.Reaction, SignOfLife.heard, SignOfLife.at_stop}
 use Rattle.cyclic_link.specs.Class2 as Class2
@@ -14,6 +14,10 @@ abbrev pub reaction : Bool → Life → InForce → Link → Bool → Control �
 reaction class w f k faulty c stored = cond class (reaction4 w f k faulty c stored) (Class2.reaction f k faulty c.word)
 
 -- nothing refuses a preset that is made: the class is on, and the value lies strictly between −L and L
-pub record Possible (f : InForce) (o : Preset) : Type 0 where
-  pub on : o.made ≡ true → f.enabled ≡ true
-  pub below : o.made ≡ true → nat_abs o.value < f.span.0
+pub record Allowed (f : InForce) (o : Preset) : Type 0 where
+  pub on : f.enabled ≡ true
+  pub below : nat_abs o.value < f.span.0
+
+abbrev pub Possible : InForce → Option Preset → Type 0
+Possible f None = Unit {0}
+Possible f (Some o) = Allowed f o

@@ -10,7 +10,7 @@ pub use SignOfLife.{at_stop, counting, following, heard, started}
 pub use Class2.{value}
 unfoldable pub use Class4.{code, zsw}
 pub use Class4.{acknowledges, code_by, held}
-pub use Classes.{Possible}
+pub use Classes.{Allowed, Possible}
 unfoldable pub use Limits.{link_refusal, within}
 pub use Limits.{code_within, counter_within, of_error}
 pub use declared.Control.{Control}

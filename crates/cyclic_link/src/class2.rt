@@ -31,9 +31,11 @@ pub(crate) fn react(link: Link, rules: InForce, faulty: bool, word: u32) -> Reac
     next.requested = requested;
     next.due = due & !made;
     let preset = Preset {
-        made,
         value: value as i64,
         relative: false,
     };
-    Reaction { link: next, preset }
+    Reaction {
+        link: next,
+        preset: made.then_some(preset),
+    }
 }

@@ -64,11 +64,13 @@ pub(crate) fn react(
         code,
     };
     let preset = Preset {
-        made,
         value: stored,
         relative: bit(word, RELATIVE),
     };
-    Reaction { link: next, preset }
+    Reaction {
+        link: next,
+        preset: made.then_some(preset),
+    }
 }
 
 // G1_ZSW, by the link that the cycle leaves.

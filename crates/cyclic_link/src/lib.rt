@@ -50,10 +50,9 @@ pub struct Control {
     pub sign: u32,
 }
 
-// The preset that a cycle makes, if it makes one.
+// A preset that a cycle makes.
 #[derive(Clone, Copy, PartialEq, Eq)]
 pub struct Preset {
-    pub made: bool,
     pub value: i64,
     pub relative: bool,
 }
@@ -62,7 +61,7 @@ pub struct Preset {
 #[derive(Clone, Copy, PartialEq, Eq)]
 pub struct Reaction {
     pub link: Link,
-    pub preset: Preset,
+    pub preset: Option<Preset>,
 }
 
 // The cycle of either class. A preset of class 4 takes the held preset value.

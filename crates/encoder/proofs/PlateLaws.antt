@@ -1,7 +1,7 @@
 -- What holds of a nameplate that is not refused: its bounds, one by one, the due length of a lent buffer, and that its capacity fits.
 pub use borrow.Author.Rules.{rules}
 use Rattle.std.specs.Prelude.{◌≡◌, refl, Bool, true, false, ◌&&◌, not, ℕ, ◌*◌, ◌^◌, ◌≤◌, eqb, Option, None, Some}
-use Rattle.std.proofs.Common.{arith, leb-true, eqb-true}
+use Rattle.std.proofs.Common.{arith, leb-true, eqb-true, eq-eqb}
 use Rattle.std.proofs.lemmas.Bool.{false≢true}
 use Rattle.std.specs.Int.{w64, w32}
 use mir.Val.{Fits}
@@ -48,6 +48,13 @@ buffer-passed n size due later e =
     let plate = before-none (plate_refusal n) _ e in
     let length = before-none (when (not (eqb size due)) WrongBuffer) later plate.1 in
     (plate.0, eqb-true _ _ (when-none _ _ length.0), length.1)
+
+-- then the later refusals decide
+pub buffer-later : (n : Nameplate) (size due : ℕ) (later : Option Refusal) → buffer_refusal n size due None ≡ None
+    → buffer_refusal n size due later ≡ later
+buffer-later n size due later e =
+    let passed = buffer-passed n size due None e in
+    rw (passed.0, eq-eqb _ _ passed.1)
 
 -- and one that it has not passed refuses, whatever comes later
 pub buffer-refused : (n : Nameplate) (size due : ℕ) (r : Refusal) (later : Option Refusal) → buffer_refusal n size due None ≡ Some r

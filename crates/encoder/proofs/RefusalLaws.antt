@@ -1,8 +1,8 @@
 -- The general laws of refusals: an answer or a kept buffer by its refusal, and what no refusal tells of the tests. By the cases of the refusal.
 use Rattle.std.specs.Prelude.{◌≡◌, refl, Bool, true, false, not, Option, Some, None, Result, Ok, Err}
-use Rattle.std.proofs.Common.{sym, ◌∙◌}
+use Rattle.std.proofs.Common.{sym, ◌∙◌, arith}
 use Rattle.std.proofs.lemmas.Bool.{not-false}
-use Rattle.encoder.specs.{Refusal, when, ◌before◌, answer}
+use Rattle.encoder.specs.{Refusal, number, when, ◌before◌, answer, coded}
 
 -- ---- from what a call has answered back to its refusal n
 module _ {A : Type 0} (taken : A) (n : Option Refusal) where
@@ -72,3 +72,11 @@ when-not false r e = refl
 
 pub when-none : (b : Bool) (r : Refusal) → when (not b) r ≡ None → b ≡ true
 when-none b r e = not-false b (when-not (not b) r e)
+
+-- ---- no refusal has the number 0
+number-some : (r : Refusal) → number r ≡ 0 → ⊥
+number-some r e = grind arith
+
+pub coded-none : (n : Option Refusal) → coded n ≡ 0 → n ≡ None
+coded-none None e = refl
+coded-none (Some r) e = absurd (number-some r e)

@@ -4,7 +4,7 @@ pub mod Operating
 pub mod Rows
 pub mod Force
 pub mod Combinations
-pub use Refusals.{◌before◌, answer, checked, number, when}
+pub use Refusals.{◌before◌, answer, checked, coded, number, when}
 unfoldable pub use Plate.{plate_refusal}
 pub use Plate.{buffer_refusal, capacity_of, plain_plate}
 pub use Operating.{class_on, reserved_wrong, reversed_by, scaling_on}

@@ -61,6 +61,10 @@ abbrev pub answer : {A : Type 0} → (Refusal → A) → A → Option Refusal �
 answer refused taken None = taken
 answer refused taken (Some r) = refused r
 
+-- as other languages get it: its number, and 0 where there is none
+abbrev pub coded : Option Refusal → ℕ
+coded r = answer number 0 r
+
 -- the answer of a call that yields nothing else
 abbrev pub checked : Option Refusal → Result (Unit {0}) Refusal
 checked r = answer Err (Ok tt) r

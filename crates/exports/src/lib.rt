@@ -7,13 +7,14 @@ mod run;
 mod take;
 
 ghost use Rattle.std.specs.Prelude.{◌≡◌};
-ghost use Rattle.encoder.specs.{plain_plate};
+ghost use Rattle.encoder.specs.{coded, plain_plate};
 ghost use Rattle.parameters_reader.specs.{read_telegram, read_block};
-ghost use Rattle.exports.specs.{parameters_of, take_refusal, taken, run_refusal, ran};
+ghost use Rattle.exports.specs.{code_of, parameters_of, take_refusal, taken, run_refusal, ran};
 
 use encoder::nameplate::Nameplate;
 use encoder::parameters::Parameters;
 use encoder::quantity::Units;
+use encoder::refusal::Refusal;
 use parameters_reader::{read_block, read_telegram};
 use run::run;
 use take::take;
@@ -33,12 +34,12 @@ pub fn encoder_batch(
     raws: &[u32],
     positions: &mut [u32],
 ) -> u8
-    ensures { (result ≡ run_refusal (plain_plate steps turns 0) (parameters_of class4 operating units range life speed) first raws.now positions.old)
+    ensures { (result ≡ coded (run_refusal (plain_plate steps turns 0) (parameters_of class4 operating units range life speed) first raws.now positions.old))
         × (positions.new ≡ ran (plain_plate steps turns 0) (parameters_of class4 operating units range life speed) first raws.now positions.old) }
 {
     let plate = Nameplate::plain(steps, turns, 0);
     let sent = parameters(class4, operating, units, range, life, speed);
-    run(plate, sent, first, raws, positions)
+    code(run(plate, sent, first, raws, positions))
 }
 
 // Class 2: octet 9, revolution units and total range of a telegram.
@@ -49,20 +50,30 @@ pub fn encoder_read_telegram(
     telegram: &[u8],
     parameters: &mut [u32],
 ) -> u8
-    ensures { (result ≡ take_refusal (plain_plate steps turns ident) 3 (read_telegram (plain_plate steps turns ident) telegram.now) parameters.old)
+    ensures { (result ≡ coded (take_refusal (plain_plate steps turns ident) 3 (read_telegram (plain_plate steps turns ident) telegram.now) parameters.old))
         × (parameters.new ≡ taken (plain_plate steps turns ident) 3 (read_telegram (plain_plate steps turns ident) telegram.now) parameters.old) }
 {
     let plate = Nameplate::plain(steps, turns, ident);
-    take(plate, 3, read_telegram(plate, telegram), parameters)
+    code(take(plate, 3, read_telegram(plate, telegram), parameters))
 }
 
 // Class 4: octet 1, revolution units, total range, sign-of-life limit and speed unit of a block.
 pub fn encoder_read_block(steps: u32, turns: u32, block: &[u8], parameters: &mut [u32]) -> u8
-    ensures { (result ≡ take_refusal (plain_plate steps turns 0) 5 (read_block (plain_plate steps turns 0) block.now) parameters.old)
+    ensures { (result ≡ coded (take_refusal (plain_plate steps turns 0) 5 (read_block (plain_plate steps turns 0) block.now) parameters.old))
         × (parameters.new ≡ taken (plain_plate steps turns 0) 5 (read_block (plain_plate steps turns 0) block.now) parameters.old) }
 {
     let plate = Nameplate::plain(steps, turns, 0);
-    take(plate, 5, read_block(plate, block), parameters)
+    code(take(plate, 5, read_block(plate, block), parameters))
+}
+
+// 0, or the number of the refusal.
+fn code(answer: Result<(), Refusal>) -> u8
+    ensures { result ≡ code_of answer }
+{
+    match answer {
+        Ok(()) => 0,
+        Err(refusal) => refusal.number(),
+    }
 }
 
 fn parameters(class4: u8, operating: u8, units: u32, range: u32, life: u8, speed: u8) -> Parameters

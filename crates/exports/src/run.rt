@@ -1,11 +1,13 @@
 // A batch from its start on.
 ghost use Rattle.std.specs.Prelude.{◌≡◌};
+ghost use Rattle.encoder.specs.{checked};
 ghost use Rattle.exports.specs.{run_refusal, ran};
 
 use axis::Axis;
 use axis_batch::batch;
 use encoder::nameplate::Nameplate;
 use encoder::parameters::Parameters;
+use encoder::refusal::Refusal;
 
 pub(crate) fn run(
     plate: Nameplate,
@@ -13,16 +15,12 @@ pub(crate) fn run(
     first: u32,
     raws: &[u32],
     positions: &mut [u32],
-) -> u8
-    ensures { (result ≡ run_refusal plate parameters first raws.now positions.old)
+) -> Result<(), Refusal>
+    ensures { (result ≡ checked (run_refusal plate parameters first raws.now positions.old))
         × (positions.new ≡ ran plate parameters first raws.now positions.old) }
 {
-    let start = Axis::start_raw(plate, parameters, first);
-    let n = plate.buffer_refusal(raws.len(), positions.len(), start.refusal);
-    if n != 0 {
-        return n;
-    }
-    let axis = start.axis;
-    let next = batch(axis, raws, positions);
-    next.refusal
+    plate.check_buffer(raws.len(), positions.len())?;
+    let axis = Axis::start_raw(plate, parameters, first).taken()?;
+    batch(axis, raws, positions).taken()?;
+    Ok(())
 }

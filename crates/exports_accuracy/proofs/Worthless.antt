@@ -1,9 +1,9 @@
 -- Worthless functions break the claim, each on the axis of document 01's listing: first at raw number 28, then at 4 and 10, 6 steps on each time. Exact is
 -- 10.2 and 12, which on the ring of 7 is 3.2 and 5, and no position is within a unit of both. And the table takes this call.
-use Rattle.std.specs.Prelude.{◌≡◌, refl, [], ◌∷◌, ℕ, ℤ, pos, get_or}
-use Rattle.std.proofs.Common.{◌∙◌, arith}
+use Rattle.std.specs.Prelude.{◌≡◌, refl, [], ◌∷◌, ℕ, ℤ, pos, get_or, None}
+use Rattle.std.proofs.Common.{ap, ◌∙◌, arith}
 use Rattle.integer.specs.{◌modulo◌}
-use Rattle.encoder.specs.{plate_refusal, fields_refusal, refusal_on, rules_of}
+use Rattle.encoder.specs.{coded, plate_refusal, fields_refusal, refusal_on, rules_of}
 use Rattle.axis_shaft.specs.{oriented, difference, move_refusal, refusal_in}
 use Rattle.axis.specs.{start_raw_refusal}
 use Rattle.accuracy.specs.{with_readings, Supposed, Entries}
@@ -30,7 +30,7 @@ abbrev steady : ℕ → ℤ
 steady i = pos 6
 
 -- the table takes the call, and the true steps are as supposed
-taken : refusal listing ≡ 0
+taken : refusal listing ≡ None
 unfolding start_raw_refusal refusal_on plate_refusal fields_refusal refusal_in move_refusal difference oriented ◌modulo◌ rules_of
 taken = refl
 
@@ -42,7 +42,7 @@ no-repeats : (position : Arguments → ℕ) → Claim (repeats position) → ⊥
 unfolding Entries with_readings oriented rules_of
 no-repeats position h =
     let x = position listing in
-    let e = ((h listing).1 ((h listing).0 ∙ taken) steady supposed).1 in
+    let e = ((h listing).1 ((h listing).0 ∙ ap coded taken) steady supposed).1 in
     let one = told (device listing) _ x e.0 in
     let two = told (device listing) _ x e.1.0 in
     omega arith
@@ -54,4 +54,4 @@ pub no-copies_first : Claim copies_first → ⊥
 no-copies_first = no-repeats (λ c. get_or (encoder_batch.list c) 0 0)
 
 pub no-refuses_all : Claim refuses_all → ⊥
-no-refuses_all h = let wrong = (h listing).0 ∙ taken in omega arith
+no-refuses_all h = let wrong = (h listing).0 ∙ ap coded taken in omega arith

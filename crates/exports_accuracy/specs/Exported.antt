@@ -9,8 +9,8 @@
 --
 -- The claim is of any function that C could call so, and sees only its answer and the list that it leaves. Worthless.antt in proofs/
 -- refutes functions that show one position throughout or turn every call away, and Exported.antt proves the claim of ours.
-use Rattle.std.specs.Prelude.{◌≡◌, not, List, ℕ, eqb, ℤ, length}
-use Rattle.encoder.specs.{WrongBuffer, when, ◌before◌, plate_refusal, plain_plate}
+use Rattle.std.specs.Prelude.{◌≡◌, not, List, ℕ, eqb, ℤ, length, Option}
+use Rattle.encoder.specs.{Refusal, WrongBuffer, coded, when, ◌before◌, plate_refusal, plain_plate}
 use Rattle.accuracy.specs.{first_number, batching, Device, start_by, opened, refusal_by, Supposed, Entries}
 use Rattle.exports.specs.{parameters_of, run_refusal, ran}
 
@@ -45,12 +45,12 @@ device c =
 abbrev pub encoder_batch : Function
 encoder_batch =
     record {
-      answer = λ c. run_refusal (device c).plate (device c).parameters c.first c.raws c.positions;
+      answer = λ c. coded (run_refusal (device c).plate (device c).parameters c.first c.raws c.positions);
       list = λ c. ran (device c).plate (device c).parameters c.first c.raws c.positions;
     }
 
--- by the table, in its order: 7 and 13; then the number of the start; then that of the batch, beside the ledger that the start has opened
-abbrev pub refusal : Arguments → ℕ
+-- by the table, in its order: 7 and 13; then the refusal of the start; then that of the batch, beside the ledger that the start has opened
+abbrev pub refusal : Arguments → Option Refusal
 refusal c =
     let d = device c in
     plate_refusal d.plate
@@ -63,6 +63,6 @@ abbrev pub Claim : Function → Type 0
 Claim f =
     (c : Arguments) →
     let d = device c in
-    (f.answer c ≡ refusal c)
+    (f.answer c ≡ coded (refusal c))
     × (f.answer c ≡ 0 → (m : ℕ → ℤ) → Supposed d c.first c.raws m
     → (length (f.list c) ≡ length c.raws) × Entries d (opened d c.first) c.raws m (f.list c))

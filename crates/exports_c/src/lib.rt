@@ -2,7 +2,7 @@
 #![tactic(auto)]
 
 ghost use Rattle.std.specs.Prelude.{◌≡◌};
-ghost use Rattle.encoder.specs.{plain_plate};
+ghost use Rattle.encoder.specs.{coded, plain_plate};
 ghost use Rattle.parameters_reader.specs.{read_telegram, read_block};
 ghost use Rattle.exports.specs.{parameters_of, take_refusal, taken, run_refusal, ran};
 
@@ -21,7 +21,7 @@ pub extern "C" fn encoder_batch(
     raws: &[u32],
     positions: &mut [u32],
 ) -> u8
-    ensures { (result ≡ run_refusal (plain_plate steps turns 0) (parameters_of class4 operating units range life speed) first raws.now positions.old)
+    ensures { (result ≡ coded (run_refusal (plain_plate steps turns 0) (parameters_of class4 operating units range life speed) first raws.now positions.old))
         × (positions.new ≡ ran (plain_plate steps turns 0) (parameters_of class4 operating units range life speed) first raws.now positions.old) }
 {
     exports::encoder_batch(
@@ -38,7 +38,7 @@ pub extern "C" fn encoder_read_telegram(
     telegram: &[u8],
     parameters: &mut [u32],
 ) -> u8
-    ensures { (result ≡ take_refusal (plain_plate steps turns ident) 3 (read_telegram (plain_plate steps turns ident) telegram.now) parameters.old)
+    ensures { (result ≡ coded (take_refusal (plain_plate steps turns ident) 3 (read_telegram (plain_plate steps turns ident) telegram.now) parameters.old))
         × (parameters.new ≡ taken (plain_plate steps turns ident) 3 (read_telegram (plain_plate steps turns ident) telegram.now) parameters.old) }
 {
     exports::encoder_read_telegram(steps, turns, ident, telegram, parameters)
@@ -52,7 +52,7 @@ pub extern "C" fn encoder_read_block(
     block: &[u8],
     parameters: &mut [u32],
 ) -> u8
-    ensures { (result ≡ take_refusal (plain_plate steps turns 0) 5 (read_block (plain_plate steps turns 0) block.now) parameters.old)
+    ensures { (result ≡ coded (take_refusal (plain_plate steps turns 0) 5 (read_block (plain_plate steps turns 0) block.now) parameters.old))
         × (parameters.new ≡ taken (plain_plate steps turns 0) 5 (read_block (plain_plate steps turns 0) block.now) parameters.old) }
 {
     exports::encoder_read_block(steps, turns, block, parameters)

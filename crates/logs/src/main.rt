@@ -2,11 +2,9 @@
 // length, also for a log that is too long.
 #![tactic(auto)]
 
-ghost use Rattle.std.specs.Prelude.{◌≤◌, length};
-
 use axislog_core::{OUTPUT, answer};
+use input::fill;
 use std::fs::File;
-use std::io::Read;
 use std::{env, io};
 
 fn main(rt: HostRuntime) -> io::Result<()> {
@@ -40,29 +38,15 @@ fn stored(rt: &impl Print, mut file: File, output: &mut [u8]) -> io::Result<()> 
     read(rt, &mut file, &mut space, output)
 }
 
+// What was read before a failed read counts.
 fn read(
     rt: &impl Print,
     file: &mut File,
     space: &mut [u8; 65_536],
     output: &mut [u8],
 ) -> io::Result<()> {
-    let n = fill(file, space);
+    let n = fill(file, space).unwrap_or_else(|failed| failed.after);
     run(rt, &space[..n], output)
-}
-
-// Reads until the file ends, a read fails or the buffer is full.
-fn fill<R: Read>(file: &mut R, buffer: &mut [u8]) -> usize
-    ensures { result ≤ length buffer.new }
-{
-    let mut n = 0;
-    while n < buffer.len() {
-        match file.read(&mut buffer[n..]) {
-            Ok(0) => return n,
-            Ok(more) => n += more,
-            Err(_) => return n,
-        }
-    }
-    n
 }
 
 // The answers to a log, or the refusal.

@@ -1,12 +1,12 @@
 -- What the writer leaves in the buffer, and what it has tested before.
 pub use borrow.Author.Rules.{rules}
 use Rattle.std.specs.Prelude.{◌≡◌, List, ℕ, length, take, drop, set, None, Some}
-use Rattle.std.proofs.Common.{eq-eqb}
+use Rattle.std.proofs.Common.{◌∙◌}
 use borrow.Rule.Slice.PartMut.{put_mid}
 use Rattle.integer.specs.{octets}
 use Rattle.integer.proofs.{known}
 use Rattle.encoder.specs.{Units, Nameplate, Parameters, Refusal, plate_refusal, buffer_refusal, parameters_refusal, refusal_on}
-use Rattle.encoder.proofs.{buffer-passed, buffer-refused}
+use Rattle.encoder.proofs.{buffer-later, buffer-passed, buffer-refused}
 use Rattle.parameters_writer.specs.{length_of, telegram_of, block_of, write_refusal}
 
 -- three parts and a store fill a telegram
@@ -42,9 +42,7 @@ module _ (n : Nameplate) (p : Parameters) (size : ℕ) where
 
   pub write-later : buffer_refusal n size (length_of p) None ≡ None → write_refusal n p size ≡ refusal_on n p
   unfolding write_refusal refusal_on
-  write-later e =
-      let passed = buffer-passed n size (length_of p) None e in
-      rw (passed.0, eq-eqb _ _ passed.1)
+  write-later e = buffer-later n size (length_of p) (parameters_refusal n p) e ∙ rw (buffer-passed n size (length_of p) None e).0
 
   -- an accepted write has passed the tests of nameplate, length and parameters
   pub write-passed : write_refusal n p size ≡ None → (plate_refusal n ≡ None) × (size ≡ length_of p) × (parameters_refusal n p ≡ None)

@@ -1,10 +1,10 @@
 -- The starred bench values (document 01, "Bench values"): beside each value of the paper what the definitions give, in one list.
-use Rattle.std.specs.Prelude.{ℕ, ◌/◌, ◌%◌, false, List, [], ◌∷◌, ◌++◌, replicate, ℤ, pos, negsuc}
-use Rattle.encoder.specs.{Nameplate, Parameters, Class2, Class4, Effect, Taken as Effective, Refused as NotInForce, plain_plate, in_force}
-use Rattle.parameters_reader.specs.{Received, Taken, Refused, read_telegram}
-use Rattle.axis_shaft.specs.{Reported, At, declared.Reported.TheVariants.Refused as NotReported}
+use Rattle.std.specs.Prelude.{ℕ, ◌/◌, ◌%◌, false, List, [], ◌∷◌, ◌++◌, replicate, ℤ, pos, negsuc, Result, Ok, Err}
+use Rattle.encoder.specs.{Nameplate, Parameters, Class2, Class4, InForce, Refusal, plain_plate, in_force}
+use Rattle.parameters_reader.specs.{read_telegram}
+use Rattle.axis_shaft.specs.{Reported}
 use Rattle.axis.specs.{Axis, reported, start, read_raw, preset}
-use Rattle.axis_velocity.specs.{Speed, At as SpeedAt, Refused as NoSpeed, velocity_at}
+use Rattle.axis_velocity.specs.{velocity_at}
 
 pub record Starred : Type 0 where
   pub computed : List ℤ
@@ -26,27 +26,27 @@ abbrev pub sent4 : ℕ → ℕ → ℕ → Parameters
 sent4 m l unit = Class4 0x2A (record { 0 = m }) (record { 0 = l }) 0 unit
 
 -- ---- what is shown of an answer; nothing where a call is turned away
-abbrev pub scaling : Effect → List ℤ
-scaling (Effective f) = pos f.scale.0 ∷ pos f.span.0 ∷ []
-scaling (NotInForce n) = []
+abbrev pub scaling : Result InForce Refusal → List ℤ
+scaling (Ok f) = pos f.scale.0 ∷ pos f.span.0 ∷ []
+scaling (Err r) = []
 
-abbrev pub taken : Received → List ℤ
-taken (Taken p) = scaling (in_force bench p)
-taken (Refused n) = []
+abbrev pub taken : Result Parameters Refusal → List ℤ
+taken (Ok p) = scaling (in_force bench p)
+taken (Err r) = []
 
-abbrev pub positions : Reported → List ℤ
-positions (At position unshifted) = pos position.0 ∷ []
-positions (NotReported n) = []
+abbrev pub positions : Result Reported Refusal → List ℤ
+positions (Ok at) = pos at.position.0 ∷ []
+positions (Err r) = []
 
-abbrev pub speed : Speed → List ℤ
-speed (SpeedAt v) = v ∷ []
-speed (NoSpeed n) = []
+abbrev pub speed : Result ℤ Refusal → List ℤ
+speed (Ok v) = v ∷ []
+speed (Err r) = []
 
 -- ---- an axis at a first raw number, and a velocity at a new one
 abbrev pub begun : Nameplate → Parameters → ℕ → Axis
 begun n p raw = (start n p (raw % n.steps.0) (raw / n.steps.0)).axis
 
-abbrev pub velocity_to : Nameplate → Parameters → ℕ → ℕ → ℕ → Speed
+abbrev pub velocity_to : Nameplate → Parameters → ℕ → ℕ → ℕ → Result ℤ Refusal
 velocity_to n p from to e = velocity_at (begun n p from) (to % n.steps.0) (to / n.steps.0) e
 
 -- the listing of "The program axislog": read 28, read 4, preset 0, read 3

@@ -1,27 +1,22 @@
 // Answers in words: what is in force, the octets of a buffer, or the number of the refusal.
-use axis::Next;
+use axis::{Axis, Next};
 use axis_shaft::Reported;
-use axis_velocity::Speed;
 use cyclic::Cycled;
-use diagnosis::Diagnosed;
-use encoder::effect::{Effect, InForce, in_force};
+use encoder::effect::{InForce, in_force};
 use encoder::nameplate::Nameplate;
-use parameters_reader::Received;
-use parameters_writer::Written;
+use encoder::parameters::Parameters;
+use encoder::refusal::Refusal;
 use std::io;
 
 // A reader's answer, with what the parameters put in force on the nameplate.
-pub(crate) fn received(rt: &impl Print, plate: Nameplate, answer: Received) -> io::Result<()> {
-    match answer {
-        Received::Taken(parameters) => effect(rt, in_force(plate, parameters)),
-        Received::Refused(n) => refused(rt, n),
-    }
-}
-
-fn effect(rt: &impl Print, answer: Effect) -> io::Result<()> {
-    match answer {
-        Effect::Taken(rules) => taken(rt, rules),
-        Effect::Refused(n) => refused(rt, n),
+pub(crate) fn received(
+    rt: &impl Print,
+    plate: Nameplate,
+    answer: Result<Parameters, Refusal>,
+) -> io::Result<()> {
+    match answer.and_then(|parameters| in_force(plate, parameters)) {
+        Ok(rules) => taken(rt, rules),
+        Err(refusal) => refused(rt, refusal),
     }
 }
 
@@ -34,20 +29,15 @@ fn taken(rt: &impl Print, rules: InForce) -> io::Result<()> {
     )
 }
 
-// The writer's answer, with the buffer as it left it.
-pub(crate) fn written(rt: &impl Print, answer: Written, buffer: &[u8]) -> io::Result<()> {
+// The answer of the writer or of a diagnosis, with the buffer as it left it.
+pub(crate) fn filled(
+    rt: &impl Print,
+    answer: Result<(), Refusal>,
+    buffer: &[u8],
+) -> io::Result<()> {
     match answer {
-        Written::Done => println!(rt; "  done")?,
-        Written::Refused(n) => refused(rt, n)?,
-    }
-    lent(rt, buffer)
-}
-
-// The diagnosis' answer, with the buffer as it left it.
-pub(crate) fn diagnosed(rt: &impl Print, answer: Diagnosed, buffer: &[u8]) -> io::Result<()> {
-    match answer {
-        Diagnosed::Done => println!(rt; "  done")?,
-        Diagnosed::Refused(n) => refused(rt, n)?,
+        Ok(()) => println!(rt; "  done")?,
+        Err(refusal) => refused(rt, refusal)?,
     }
     lent(rt, buffer)
 }
@@ -85,26 +75,25 @@ fn lent(rt: &impl Print, buffer: &[u8]) -> io::Result<()> {
 
 // The axis that a call leaves: positions, offset, presets; or the number of the refusal.
 pub(crate) fn next(rt: &impl Print, answer: Next) -> io::Result<()> {
-    if answer.refusal != 0 {
-        return refused(rt, answer.refusal);
-    }
-    let axis = answer.axis;
-    match axis.position() {
-        Reported::At {
-            position,
-            unshifted,
-        } => println!(rt;
+    match shown(answer) {
+        Ok((axis, at)) => println!(rt;
             "  at {} unshifted {} offset {} preset {} stored {}",
-            position.0, unshifted.0, axis.offset, axis.preset, axis.stored
+            at.position.0, at.unshifted.0, axis.offset, axis.preset, axis.stored
         ),
-        Reported::Refused(n) => refused(rt, n),
+        Err(refusal) => refused(rt, refusal),
     }
 }
 
-pub(crate) fn speed(rt: &impl Print, answer: Speed) -> io::Result<()> {
+fn shown(answer: Next) -> Result<(Axis, Reported), Refusal> {
+    let axis = answer.taken()?;
+    let at = axis.position()?;
+    Ok((axis, at))
+}
+
+pub(crate) fn speed(rt: &impl Print, answer: Result<i32, Refusal>) -> io::Result<()> {
     match answer {
-        Speed::At(velocity) => println!(rt; "  velocity {velocity}"),
-        Speed::Refused(n) => refused(rt, n),
+        Ok(velocity) => println!(rt; "  velocity {velocity}"),
+        Err(refusal) => refused(rt, refusal),
     }
 }
 
@@ -117,8 +106,8 @@ pub(crate) fn positions(rt: &impl Print, list: &[u32]) -> io::Result<()> {
     println!(rt; "")
 }
 
-fn refused(rt: &impl Print, n: u8) -> io::Result<()> {
-    println!(rt; "  refused {n}")
+fn refused(rt: &impl Print, refusal: Refusal) -> io::Result<()> {
+    println!(rt; "  {refusal}")
 }
 
 pub(crate) fn line(rt: &impl Print, octets: &[u8]) -> io::Result<()> {

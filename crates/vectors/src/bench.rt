@@ -1,12 +1,14 @@
-// Cycles and diagnoses, on the axis and the link that the line before left. Octets are hexadecimal, other numbers decimal.
-use crate::parse::{Parsed, decimal, hexadecimal};
-use crate::vector::octets;
-use crate::{answer, call};
+// An axis and its link, on which each line makes its call. The calls that need both are here: cycles and diagnoses. Octets are hexadecimal, other
+// numbers decimal.
+use crate::numbers::Numbers;
+use crate::word::Word;
+use crate::{answer, call, vector};
 use axis::Axis;
 use cyclic::telegram83::cycle_83;
 use cyclic::{Cycled, cycle};
 use cyclic_link::Link;
 use diagnosis::diagnosis;
+use parameters_reader::{read_block, read_telegram};
 use std::io;
 
 #[derive(Clone, Copy, PartialEq, Eq)]
@@ -15,142 +17,114 @@ pub struct Bench {
     pub link: Link,
 }
 
-// Before the first line that describes an axis.
-pub(crate) fn none() -> Bench {
-    Bench {
-        axis: call::none(),
-        link: Link::quiet(),
+impl Bench {
+    // Before the first line that describes an axis.
+    pub(crate) fn none() -> Bench {
+        Bench::of(call::none())
     }
-}
 
-pub(crate) fn run(rt: &impl Print, bench: Bench, word: u8, line: &[u8]) -> io::Result<Bench> {
-    match word {
-        b'e' | b'm' => exchange(rt, bench, word, line),
-        b'd' => diagnose(rt, bench, line),
-        b'k' => Ok(keep(bench, line)),
-        _ => called(rt, bench, word, line),
+    // A new axis gets a new link.
+    fn of(axis: Axis) -> Bench {
+        let link = Link::quiet();
+        Bench { axis, link }
     }
-}
 
-// Any other call. A new axis gets a new link.
-fn called(rt: &impl Print, bench: Bench, word: u8, line: &[u8]) -> io::Result<Bench> {
-    let axis = call::run(rt, bench.axis, word, line)?;
-    let link = if word == b'a' {
-        Link::quiet()
-    } else {
-        bench.link
-    };
-    Ok(Bench { axis, link })
-}
-
-// `exchange`: how many input octets are lent, each of them EEh, the raw number, and the output octets. `measured`, a cycle of telegram 83: the
-// same, with the milliseconds behind the raw number.
-fn exchange(rt: &impl Print, bench: Bench, word: u8, line: &[u8]) -> io::Result<Bench> {
-    let size = decimal(line, 8);
-    let raw = decimal(line, size.next);
-    let time = elapsed(word, line, raw);
-    let mut output = [0; 64];
-    let n = octets(line, time.next, &mut output);
-    let m = size.value as usize;
-    let mut input = [0xee; 64];
-    if 64 < m {
-        return Ok(bench);
+    // Makes the call of a line. `number` is a reading by its raw number, `preset` an absolute and `change` a relative preset, `hold` sets the held
+    // preset value.
+    pub(crate) fn run(
+        &mut self,
+        rt: &impl Print,
+        word: Word,
+        numbers: &mut Numbers,
+    ) -> io::Result<()> {
+        let axis = self.axis;
+        match word {
+            Word::Telegram => vector::read(rt, numbers, read_telegram)?,
+            Word::Block => vector::read(rt, numbers, read_block)?,
+            Word::Write(class) => vector::write(rt, class, numbers)?,
+            Word::Axis(class) => *self = Bench::of(call::described(class, numbers)),
+            Word::Given => call::given(&mut self.axis, numbers),
+            Word::Serial => call::serial(&mut self.axis, numbers),
+            Word::First => self.answered(rt, call::first(axis, numbers))?,
+            Word::Reading => self.reading(rt, numbers)?,
+            Word::Number => self.answered(rt, axis.read_raw(numbers.decimal()))?,
+            Word::Preset => self.answered(rt, axis.preset(numbers.signed(), false))?,
+            Word::Change => self.answered(rt, axis.preset(numbers.signed(), true))?,
+            Word::Hold => self.answered(rt, axis.store(numbers.signed()))?,
+            Word::List => self.list(rt, numbers)?,
+            Word::Velocity => call::velocity(rt, axis, numbers)?,
+            Word::Exchange => self.exchange(rt, numbers)?,
+            Word::Measured => self.measured(rt, numbers)?,
+            Word::Diagnose => self.diagnose(rt, numbers)?,
+            Word::Keep => self.keep(numbers),
+        }
+        Ok(())
     }
-    cycled(
-        rt,
-        bench,
-        word,
-        raw.value,
-        time.value,
-        &output[..n],
-        &mut input[..m],
-    )
-}
 
-// The milliseconds, or the raw number before them where there are none.
-fn elapsed(word: u8, line: &[u8], raw: Parsed) -> Parsed {
-    if word == b'm' {
-        return decimal(line, raw.next);
+    // `exchange`: how many input octets are lent, each of them EEh, the raw number, and the output octets.
+    fn exchange(&mut self, rt: &impl Print, numbers: &mut Numbers) -> io::Result<()> {
+        let size = numbers.decimal() as usize;
+        let raw = numbers.decimal();
+        self.cycled(rt, size, numbers, |bench, output, input| {
+            cycle(bench.axis, bench.link, raw, output, input)
+        })
     }
-    raw
-}
 
-fn cycled(
-    rt: &impl Print,
-    bench: Bench,
-    word: u8,
-    raw: u32,
-    time: u32,
-    output: &[u8],
-    input: &mut [u8],
-) -> io::Result<Bench> {
-    let next = run_cycle(bench, word, raw, time, output, input);
-    answer::cycled(rt, next, input)?;
-    let axis = next.axis;
-    let link = next.link;
-    Ok(Bench { axis, link })
-}
-
-fn run_cycle(
-    bench: Bench,
-    word: u8,
-    raw: u32,
-    time: u32,
-    output: &[u8],
-    input: &mut [u8],
-) -> Cycled {
-    if word == b'm' {
-        return cycle_83(
-            bench.axis,
-            bench.link,
-            raw,
-            (time % 65536) as u16,
-            output,
-            input,
-        );
+    // `measured`, a cycle of telegram 83: the same, with the milliseconds behind the raw number.
+    fn measured(&mut self, rt: &impl Print, numbers: &mut Numbers) -> io::Result<()> {
+        let size = numbers.decimal() as usize;
+        let raw = numbers.decimal();
+        let time = (numbers.decimal() % 65536) as u16;
+        self.cycled(rt, size, numbers, |bench, output, input| {
+            cycle_83(bench.axis, bench.link, raw, time, output, input)
+        })
     }
-    cycle(bench.axis, bench.link, raw, output, input)
-}
 
-// `diagnose`: how many octets are lent, each of them EEh.
-fn diagnose(rt: &impl Print, bench: Bench, line: &[u8]) -> io::Result<Bench> {
-    let size = decimal(line, 8);
-    let n = size.value as usize;
-    let mut buffer = [0xee; 64];
-    if n <= 64 {
-        fill(rt, bench, &mut buffer[..n])?;
+    fn cycled<F: FnOnce(Bench, &[u8], &mut [u8]) -> Cycled>(
+        &mut self,
+        rt: &impl Print,
+        size: usize,
+        numbers: &mut Numbers,
+        one_cycle: F,
+    ) -> io::Result<()>
+        requires { F.IsAlwaysCallable one_cycle }
+    {
+        let mut output = [0; 64];
+        let n = numbers.fill(&mut output, Numbers::octet);
+        let mut input = [0xee; 64];
+        let Some(lent) = input.get_mut(..size) else {
+            return Ok(());
+        };
+        let next = one_cycle(*self, &output[..n], lent);
+        self.axis = next.axis;
+        self.link = next.link;
+        answer::cycled(rt, next, lent)
     }
-    Ok(bench)
-}
 
-fn fill(rt: &impl Print, bench: Bench, buffer: &mut [u8]) -> io::Result<()> {
-    let answer = diagnosis(bench.axis, bench.link, buffer);
-    answer::diagnosed(rt, answer, buffer)
-}
+    // `diagnose`: how many octets are lent, each of them EEh.
+    fn diagnose(&self, rt: &impl Print, numbers: &mut Numbers) -> io::Result<()> {
+        let size = numbers.decimal() as usize;
+        let mut buffer = [0xee; 64];
+        let Some(lent) = buffer.get_mut(..size) else {
+            return Ok(());
+        };
+        let answer = diagnosis(self.axis, self.link, lent);
+        answer::filled(rt, answer, lent)
+    }
 
-// `keep`: a link that is brought: faulty, requested, error, acknowledged, executed, due, 1 or 0; counter and expected value; and the code, hexadecimal. A figure
-// that is missing is 0.
-fn keep(bench: Bench, line: &[u8]) -> Bench {
-    let faulty = decimal(line, 8);
-    let requested = decimal(line, faulty.next);
-    let error = decimal(line, requested.next);
-    let acknowledged = decimal(line, error.next);
-    let executed = decimal(line, acknowledged.next);
-    let due = decimal(line, executed.next);
-    let counter = decimal(line, due.next);
-    let expected = decimal(line, counter.next);
-    let code = hexadecimal(line, expected.next);
-    let link = Link {
-        faulty: faulty.value == 1,
-        requested: requested.value == 1,
-        error: error.value == 1,
-        acknowledged: acknowledged.value == 1,
-        executed: executed.value == 1,
-        due: due.value == 1,
-        counter: counter.value,
-        expected: expected.value,
-        code: code.value,
-    };
-    let axis = bench.axis;
-    Bench { axis, link }
+    // `keep`: a link that is brought: faulty, requested, error, acknowledged, executed, due, 1 or 0; counter and expected value; and the code,
+    // hexadecimal. A figure that is missing is 0.
+    fn keep(&mut self, numbers: &mut Numbers) {
+        self.link = Link {
+            faulty: numbers.decimal() == 1,
+            requested: numbers.decimal() == 1,
+            error: numbers.decimal() == 1,
+            acknowledged: numbers.decimal() == 1,
+            executed: numbers.decimal() == 1,
+            due: numbers.decimal() == 1,
+            counter: numbers.decimal(),
+            expected: numbers.decimal(),
+            code: numbers.hexadecimal(),
+        };
+    }
 }

@@ -10,7 +10,7 @@ pub(crate) fn lent(axis: Axis, step: Steps, turn: Turns) -> Next
     ensures { result ≡ read axis step.0 turn.0 }
 {
     let mut record = axis;
-    let refusal = read_in_place(&mut record, step, turn);
+    let refusal = read_in_place(&mut record, step, turn).err();
     Next {
         axis: record,
         refusal,

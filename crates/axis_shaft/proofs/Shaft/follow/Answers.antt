@@ -12,12 +12,10 @@ moved-running-requires c = search (rules, walks)
 pub loop-i-preserved : goal.loop-i-preserved
 loop-i-preserved c =
     let v = c.loop-i.invariant in (
-      omega arith,
+      simp length-set v.0,
       v.1,
-      simp length-set v.2,
-      v.3,
-      v.4,
-      following-more _ _ _ _ _ _ _ v.5 (omega arith) _ c.moved-running.ensures _ c.position.ensures,
+      v.2,
+      following-more _ _ _ _ _ _ _ v.3 (omega arith) _ c.moved-running.ensures _ c.position.ensures,
     )
 
 pub shaft-requires : goal.shaft-requires
@@ -26,6 +24,6 @@ shaft-requires c = search (rules, walks)
 pub returns : goal.returns
 returns c =
     let v = c.loop-i.invariant in (
-      following-shaft _ _ _ _ _ _ _ v.5 (omega arith) _ c.running-running.ensures _ c.shaft.ensures,
-      following-list _ _ _ _ _ _ _ c.ranges.offset v.5 (omega arith) _ c.running-running.ensures,
+      following-shaft _ _ _ _ _ _ _ v.3 (omega arith) _ c.running-running.ensures _ c.shaft.ensures,
+      following-list _ _ _ _ _ _ _ c.ranges.offset v.3 (omega arith) _ c.running-running.ensures,
     )

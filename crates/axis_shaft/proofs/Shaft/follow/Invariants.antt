@@ -5,8 +5,5 @@ use Rattle.axis_shaft.proofs.{FollowLaws.Following}
 use Rattle.axis_shaft.proofs.Shaft.follow.Given as goal
 
 abbrev pub invariant-loop-i : goal.invariant-loop-i
-invariant-loop-i l = (l.i ≤ length l.raws) × (length l.raws * 4 < 2 ^ 63) × (length l.positions ≡ length l.initial.positions) × (l.lead ≡ lead_of l.rules) × (nat_abs l.offset < l.rules.span.0)
+invariant-loop-i l = (length l.positions ≡ length l.initial.positions) × (l.lead ≡ lead_of l.rules) × (nat_abs l.offset < l.rules.span.0)
     × Following l.rules l.offset l.initial.running l.raws l.running l.i l.positions
-
-abbrev pub decreases-loop-i : goal.decreases-loop-i
-decreases-loop-i l = length l.raws - l.i

@@ -1,3 +1,0 @@
-pub mod Input
-pub use Input.{Counts, Within}
-pub use declared.Input.TheVariants.{Read}
