@@ -1,4 +1,3 @@
-mod LineLaws
 pub mod RoomLaws
 pub mod LogLaws
 pub mod OutcomeLaws

@@ -64,6 +64,10 @@ module _ (t x u : List ℕ) (next : NextLine t x u) where
       go true e = omega (arith, rw e at both, eqb-true _ _ e, ends, next.long, within, ap length next.whole, length-append x u)
       go false e = sym (rw e at both)
 
+  -- its newline stands at its end, if it has one
+  pub one_line : length x ≤ line_length x + 1
+  one_line = omega (arith, of_first, ends, next.long)
+
   line_is : take (line_length t) t ≡ take (line_length x) x
   line_is = rw (← of_first, next.whole) (take-append-le (line_length x) x u (prefix_len-le-length _ x))
 

@@ -46,20 +46,22 @@ fn each_line(input: &[u8], output: &mut [u8]) -> usize
     let mut at = 0;
     // each with its newline; the last one may have none
     for text in input.split_inclusive(|x| *x == b'\n') {
-        let line = &text[..line_length(text)];
-        let reply = state.reply(parse(line));
+        let reply = state.reply(parse(without_newline(text)));
         at = put(reply.answer, output, at);
         state = reply.state;
     }
     at
 }
 
-// The octets of the first line of a text, without its newline.
-fn line_length(text: &[u8]) -> usize
-    ensures value { result ≡ line_length text.now }
-    ensures bound { result ≤ length text.now }
+// A line without its newline, which stands at the end if at all.
+fn without_newline(text: &[u8]) -> &[u8]
+    requires { length text.now ≤ line_length text.now + 1 }
+    ensures { result.now ≡ take (line_length text.now) text.now }
 {
-    text.iter().position(|x| *x == b'\n').unwrap_or(text.len())
+    match text {
+        [line @ .., b'\n'] => line,
+        _ => text,
+    }
 }
 
 // Writes the line of an answer, and answers where the next one begins.
