@@ -1,9 +1,9 @@
 -- What is in force, with scaling on and off. Accepted parameters have a plate within its limits, as the callees require.
-use Rattle.std.specs.Prelude.{◌≡◌, Option, None, Some, Result, Ok, Err}
+use Rattle.std.specs.Prelude.{◌≡◌, None, Some, Result, Ok, Err}
 use Rattle.std.proofs.Common.{arith}
 use Rattle.std.specs.Int.{w32}
 use mir.Val.{Fits}
-use Rattle.encoder.specs.{Nameplate, Parameters, InForce, Refusal, checked, plate_refusal, fields_of, refusal_on, rules_of, in_force}
+use Rattle.encoder.specs.{Nameplate, Parameters, InForce, Refusal, plate_refusal, fields_of, refusal_on, rules_of, in_force}
 use Rattle.encoder.proofs.{RefusalLaws.exits, RefusalLaws.passed, RefusalLaws.failed, RefusalLaws.before-none, PlateLaws.plated}
 
 module _ (n : Nameplate) (p : Parameters) where

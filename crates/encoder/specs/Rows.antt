@@ -1,5 +1,5 @@
 -- The parameters of both classes (document 01, "Class 2 telegram", "Class 4 block"; rows 4 to 7 of "When a call is turned away"; request 3).
-use Rattle.std.specs.Prelude.{ℕ, ◌*◌, Bool, true, false, not, ◌&&◌, ◌||◌, eqb, ltb, Option}
+use Rattle.std.specs.Prelude.{◌*◌, Bool, true, false, not, ◌&&◌, ◌||◌, eqb, ltb, Option}
 use Rattle.integer.specs.{bit}
 use Rattle.encoder.specs.{declared.nameplate.Nameplate.Nameplate, declared.parameters.Parameters.Parameters}
 use Rattle.encoder.specs.{declared.parameters.Parameters.TheVariants.Class2, declared.parameters.Parameters.TheVariants.Class4}
