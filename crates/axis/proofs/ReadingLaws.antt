@@ -1,5 +1,5 @@
 -- Start and reading: the first refusal in the table's order is the answer; else the axis is that of rules 2 to 4.
-use Rattle.std.specs.Prelude.{◌≡◌, refl, false, ℕ, leb, Option, None, Some, Result, Ok, Err}
+use Rattle.std.specs.Prelude.{◌≡◌, false, ℕ, leb, Option, None, Some, Result, Ok, Err}
 use Rattle.std.proofs.Common.{sym, ◌∙◌}
 use Rattle.std.proofs.lemmas.Bool.{lt-leb}
 use Rattle.encoder.specs.{Nameplate, Parameters, InForce, Refusal, WrongTurn, when, capacity_of, fields_of, refusal_on, rules_of, in_force}
@@ -8,9 +8,9 @@ use Rattle.sensor.specs.{raw_of, step_refusal, numbered}
 use Rattle.sensor.proofs.{reading-lt}
 use Rattle.axis_shaft.specs.{Shaft, nowhere, started, move_refusal, moved_to, begun, shaft_refusal, moved}
 use Rattle.axis_shaft.proofs.{raw-lt, moved-kept, read-refusal, begun-by}
-use Rattle.axis.specs.{Axis, Next, rules_on, in_force_on, Ready, accepted, refused, next, yielded, next_by, fresh, begun_by, start_refusal, start, start_raw_refusal}
-use Rattle.axis.specs.{start_raw, with_shaft, at_raw, read_raw_refusal, read_raw, read_refusal, read}
-use Rattle.axis.proofs.AxisLaws.{Limits, limits-none, ready_of, outside-answer, stands-none}
+use Rattle.axis.specs.{Axis, Next, rules_on, in_force_on, Ready, next, yielded, next_by, fresh, begun_by, start_refusal, start_raw_refusal}
+use Rattle.axis.specs.{with_shaft, at_raw, read_raw_refusal, read_raw, read_refusal}
+use Rattle.axis.proofs.AxisLaws.{Limits, limits-none, ready_of, stands-none}
 
 -- ---- the answer by what a call yields
 pub next-is : (a b : Axis) (n : Option Refusal) (y : Result Axis Refusal) (x : Next) → y ≡ yielded n b → x ≡ next_by a y → x ≡ next a n b

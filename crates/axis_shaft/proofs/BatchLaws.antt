@@ -1,7 +1,7 @@
 -- A batch before it writes: the look through all readings, the first refusal reading after reading, and the number of the refusal. At the i-th
 -- reading a walk keeps what the readings to come will give; at the end of the list nothing is left.
 use Rattle.std.specs.Prelude.{◌≡◌, refl, Bool, true, false, not, ◌&&◌, ◌||◌, leb, ◌/◌, List, [], ◌∷◌, ℕ, suc, ◌+◌, ◌≤◌, ◌<◌}
-use Rattle.std.proofs.Common.{sym, ◌∙◌, true≢false, leb-false, ltb-true}
+use Rattle.std.proofs.Common.{sym, ◌∙◌, leb-false, ltb-true}
 use Rattle.std.specs.Prelude.{ℤ, nat_abs, length, get_or, drop, eqb, Option, None, Some, Result, Err}
 use Rattle.std.proofs.Common.{add-one, arith, drop_of_length-le, drop-cons, eqb-true}
 use Rattle.std.specs.Int.{w64, w32}

@@ -1,15 +1,14 @@
 -- The limits of a shaft, as a test and as facts. Then the answers of the public functions but the batch, by the tests before them.
-use Rattle.std.specs.Prelude.{◌≡◌, refl, Bool, true, false, not, ◌&&◌, ℕ, ◌%◌, ◌<◌, ltb, leb, ℤ, Option, None, Some, Result, Ok, Err}
+use Rattle.std.specs.Prelude.{◌≡◌, refl, Bool, true, false, not, ◌&&◌, ℕ, ◌%◌, ◌<◌, ltb, leb, ℤ, None, Some, Result, Ok, Err}
 use Rattle.std.proofs.Common.{sym, ◌∙◌, arith, lt-ltb}
 use Rattle.std.proofs.lemmas.Bool.{not-true, not-false}
-use Rattle.std.proofs.Common.{ltb-true, le-leb}
-use Rattle.std.proofs.lemmas.Bool.{lt-leb}
+use Rattle.std.proofs.Common.{ltb-true}
 use Rattle.std.specs.Int.{w64}
 use mir.Val.{SFits, to_z, of_z}
 use Rattle.integer.proofs.{reads, modulo-lt}
 use Rattle.encoder.specs.{Units, InForce, Refusal, WrongTurn, NoAxis, when, answer, rules_fit, Sound}
 use Rattle.encoder.proofs.{before-none, unrefused, refused-by, value-is, when-none, and_split, sound-of, fits-of}
-use Rattle.axis_shaft.specs.{Shaft, MovedBy, Reported, period, inside, Inside}
+use Rattle.axis_shaft.specs.{Shaft, period, inside, Inside}
 use Rattle.axis_shaft.specs.{nowhere, oriented, started, move_of, move_refusal, moved_to, unshifted, position_at, approach_from, begin_refusal, begun, shaft_refusal}
 use Rattle.axis_shaft.specs.{approached, moved, moved_by, positions_at, reported_at}
 use Rattle.axis_shaft.proofs.{SensorLaws.move-fits, SensorLaws.raw-lt, SensorLaws.below, PlaceLaws.period-least}

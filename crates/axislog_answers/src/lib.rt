@@ -18,7 +18,7 @@ pub enum Answer {
     Refused(Refusal),
 }
 
-// A line with its newline; the octets behind it are 0. The longest answer is a position of ten digits.
+// A line with its newline; the octets behind it are 0. There is no heap, so that an array holds it. The longest answer is a position of ten digits.
 #[derive(Clone, Copy, PartialEq, Eq)]
 pub struct Line {
     pub octets: [u8; 16],

@@ -7,7 +7,7 @@ ghost use Rattle.axislog_forms.specs.{form, read, preset, axis, sequence, scale}
 use axislog_lexer::number::{labelled, last};
 use axislog_lexer::word::{ends, past};
 
-// What an axis form says. Without a scale form scaling is off, and both its numbers are 0.
+// What an axis form says. Without a scale form scaling is off, and both its numbers are 0; a caller may bring any two, so that they are no Option.
 #[derive(Clone, Copy, PartialEq, Eq)]
 pub struct Setup {
     pub steps: u32,

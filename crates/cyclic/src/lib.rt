@@ -19,7 +19,7 @@ use encoder::refusal::{Refusal, refuse};
 use octets::{number, put_number};
 use standing::{Standing, preset, take};
 
-// The next axis and the next link; both as they were beside the refusal.
+// The next axis and the next link; both as they were beside the refusal, since the cycles that follow go on with them.
 #[derive(Clone, Copy, PartialEq, Eq)]
 pub struct Cycled {
     pub axis: Axis,

@@ -27,14 +27,14 @@ pub struct Link {
     pub executed: bool,
     // bit 31 has risen and is still 1, and its preset has yet to be made (request 2)
     pub due: bool,
-    // failures of the master's sign of life, and the value that is expected next, 0 before the start (request 3)
+    // failures of the master's sign of life, and the value that is expected next, 0 before the start (request 3); numbers, since any link may be brought
     pub counter: u32,
     pub expected: u32,
     // the code of the held error, 0 for none (request 3)
     pub code: u32,
 }
 
-// Whether an axis has a sign of life, and where its failure counter stops (request 3).
+// Whether an axis has a sign of life, and where its failure counter stops (request 3). Any two may be brought, so that this is no Option.
 #[derive(Clone, Copy, PartialEq, Eq)]
 pub struct Life {
     pub on: bool,

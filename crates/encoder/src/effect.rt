@@ -22,7 +22,7 @@ pub struct InForce {
     pub reversed: bool,
     // the class is on: presets are made
     pub enabled: bool,
-    // the unit of velocities, 0 to 3
+    // the unit of velocities, 0 to 3; a number, since the functions on a shaft take any rules
     pub speed: u8,
 }
 

@@ -17,6 +17,7 @@ pub fn fill<R: Read>(input: &mut R, buffer: &mut [u8]) -> Result<usize, ReadFail
     ensures filled { Filled (R.remaining input.old) (R.remaining input.new) result buffer.new }
 {
     let mut n = 0;
+    // how far a read gets shows only behind it, so that no `for` fits
     while n < buffer.len() {
         match input.read(&mut buffer[n..]) {
             Ok(0) => return Ok(n),

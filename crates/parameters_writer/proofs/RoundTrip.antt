@@ -1,7 +1,7 @@
 -- Parameters that the writer takes, written into any buffer of their class's length, read back as the same parameters on the same
 -- nameplate: one theorem for both classes. The buffer's length is known, so that its octets compute, and a number stands in its octets.
 use Rattle.std.specs.Prelude.{◌≡◌, refl, List, ℕ, ◌^◌, ◌<◌, length, None, Ok}
-use Rattle.std.proofs.Common.{ap, ◌∙◌, arith, eq-eqb}
+use Rattle.std.proofs.Common.{ap, ◌∙◌, eq-eqb}
 use Rattle.integer.specs.{octets}
 use Rattle.integer.proofs.{known, big_endian-octets}
 use Rattle.encoder.specs.{Units, Nameplate, Parameters, Class2, Class4, plate_refusal, parameters_refusal}

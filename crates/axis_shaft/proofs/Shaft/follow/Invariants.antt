@@ -1,5 +1,5 @@
 -- The running values are those of a shaft, and what is written and what the readings from the i-th on will write is the whole list.
-use Rattle.std.specs.Prelude.{◌≡◌, ◌≤◌, ◌<◌, ◌-◌, ◌*◌, ◌^◌, nat_abs, length}
+use Rattle.std.specs.Prelude.{◌≡◌, ◌<◌, nat_abs, length}
 use Rattle.axis_shaft.specs.{lead_of}
 use Rattle.axis_shaft.proofs.{FollowLaws.Following}
 use Rattle.axis_shaft.proofs.Shaft.follow.Given as goal
