@@ -10,7 +10,7 @@ use encoder::quantity::Units;
 use encoder::refusal::{Refusal, refuse};
 use ring::between;
 
-// Refuses a preset value or a held preset value.
+// Refuses a value for a preset, or one to be held, with the class off or outside the range.
 pub fn check_value(rules: InForce, value: i64) -> Result<(), Refusal>
     ensures { result ≡ checked (value_refusal rules value) }
 {

@@ -127,16 +127,16 @@ module _ (f : InForce) (k : Shaft) (raw : ℕ) (d : ℤ) (e-is : Ok d ≡ approa
   pub moved-by : to_z w64 (of_z w64 d) ≡ move_of f k.last.0 raw
   moved-by = let i = approach-taken.1 in rw (i, reads (move-fits f k.last.0 raw moved_inside.sound))
 
-  pub moved-to : (m : Shaft) → m ≡ moved_to f k raw → Ok m ≡ moved f k raw
-  unfolding moved
-  moved-to m m-is = rw (approach-taken.0, m-is)
-
-  -- the same, with the move
   pub moved-by-to : (m : Shaft) → m ≡ moved_to f k raw → Ok (record { shaft = m; d = to_z w64 (of_z w64 d) }) ≡ moved_by f k raw
   unfolding moved_by
   moved-by-to m m-is = rw (approach-taken.0, m-is, moved-by)
 
-pub ruleset moves = (moved_inside, moved-lt, moved-by, moved-to, moved-by-to)
+-- and without the move
+pub moved-shaft : (f : InForce) (k : Shaft) (raw : ℕ) (m : MovedBy) → Ok m ≡ moved_by f k raw → Ok m.shaft ≡ moved f k raw
+unfolding moved moved_by
+moved-shaft f k raw m e = let i = value-is _ (shaft_refusal f k raw) m e in rw (i.0, i.1)
+
+pub ruleset moves = (moved_inside, moved-lt, moved-by, moved-by-to)
 
 module _ (f : InForce) (k : Shaft) (i : Inside f k) where
   pub read-refusal : (raw : ℕ) → shaft_refusal f k raw ≡ move_refusal f k.last.0 raw

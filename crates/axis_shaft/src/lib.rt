@@ -80,8 +80,8 @@ impl Shaft {
     pub fn moved(self, rules: InForce, raw: u32) -> Result<Shaft, Refusal>
         ensures { result ≡ moved rules self raw }
     {
-        let d = self.approach(rules, raw)?;
-        Ok(self.advanced(rules, raw, d))
+        let moved = self.moved_by(rules, raw)?;
+        Ok(moved.shaft)
     }
 
     // The same, with the move: a velocity needs it, and it is worked out once.
@@ -119,7 +119,7 @@ impl Shaft {
         Ok(self.follow(rules, offset, raws, positions))
     }
 
-    // Refuses a batch for a list of so many positions.
+    // Refuses a batch outside the limits, for a list of another length, or with a reading that is refused.
     fn check_batch(
         self,
         rules: InForce,

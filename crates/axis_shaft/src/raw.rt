@@ -85,7 +85,7 @@ pub(crate) fn move_to(rules: InForce, last: Steps, raw: u32) -> i64
     shorter(n, rules.capacity)
 }
 
-// Refuses a new reading.
+// Refuses a new reading of C or above, or C / 2 from the last one.
 fn check_move(rules: InForce, last: Steps, raw: u32) -> Result<(), Refusal>
     requires { Sound rules × (last.0 < rules.capacity.0) }
     ensures { result ≡ checked (move_refusal rules last.0 raw) }
@@ -117,7 +117,7 @@ fn doubtful(capacity: u32, before: u32, raws: &[u32]) -> bool
     found
 }
 
-// Refuses new readings, one after the other: the first that is wrong.
+// Refuses a list of new readings by the first of them that is refused.
 pub(crate) fn check_moves(rules: InForce, before: Steps, raws: &[u32]) -> Result<(), Refusal>
     requires { Sound rules × (before.0 < rules.capacity.0) }
     ensures { result ≡ checked (refusal_in rules before.0 raws.now) }

@@ -92,7 +92,7 @@ impl Fields {
         self.class4 & !bit(self.operating as u32, COMPATIBLE)
     }
 
-    // Refuses the fields on a nameplate within its limits.
+    // Refuses fields that rows 3 to 6 and 17 turn away, on a nameplate within its limits.
     fn check(self, plate: Nameplate) -> Result<(), Refusal>
         ensures { result ≡ checked (fields_refusal plate self) }
     {

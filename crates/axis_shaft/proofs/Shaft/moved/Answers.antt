@@ -1,15 +1,12 @@
 use Rattle.std.proofs.Common.{rules}
 use Rattle.encoder.proofs.{exits}
-use Rattle.axis_shaft.specs.{approached, moved}
-use Rattle.axis_shaft.proofs.ShaftLaws.{moves}
+use Rattle.axis_shaft.specs.{moved, moved_by}
+use Rattle.axis_shaft.proofs.{ShaftLaws.moved-shaft}
 use Rattle.axis_shaft.proofs.Shaft.moved.Goals as goal
 
-pub returns-in_err-d : goal.returns-in_err-d
-unfolding approached moved
-returns-in_err-d c = search (rules, exits)
-
-pub advanced-requires : goal.advanced-requires
-advanced-requires c = search (rules, moves)
+pub returns-in_err-moved : goal.returns-in_err-moved
+unfolding moved moved_by
+returns-in_err-moved c = search (rules, exits)
 
 pub returns : goal.returns
-returns c = search (rules, moves)
+returns c = moved-shaft _ _ _ _ c.in_ok-moved.ensures
