@@ -8,7 +8,7 @@ use mir.Val.{SFits, to_z, of_z}
 use Rattle.integer.proofs.{reads, modulo-lt}
 use Rattle.encoder.specs.{Units, InForce, Refusal, WrongTurn, NoAxis, when, answer, rules_fit, Sound}
 use Rattle.encoder.proofs.{before-none, unrefused, refused-by, value-is, when-none, and_split, sound-of, fits-of}
-use Rattle.axis_shaft.specs.{Shaft, period, inside, Inside}
+use Rattle.axis_shaft.specs.{MovedBy, Shaft, period, inside, Inside}
 use Rattle.axis_shaft.specs.{nowhere, oriented, started, move_of, move_refusal, moved_to, unshifted, position_at, approach_from, begin_refusal, begun, shaft_refusal}
 use Rattle.axis_shaft.specs.{approached, moved, moved_by, positions_at, reported_at}
 use Rattle.axis_shaft.proofs.{SensorLaws.move-fits, SensorLaws.raw-lt, SensorLaws.below, PlaceLaws.period-least}
