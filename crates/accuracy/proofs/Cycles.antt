@@ -1,12 +1,12 @@
 -- A cycle beside a ledger. A faulty cycle moves nothing and makes no preset. Any other accepts the raw number and then makes the preset, if the ledger
 -- says that one is made. What the ledger says is due after it, the link says too.
-use Rattle.std.specs.Prelude.{◌≡◌, refl, Bool, true, false, cond, not, ◌&&◌, List, ℕ, zero, suc, ℤ, ◌+ℤ◌, Option, None, Some, is_none}
+use Rattle.std.specs.Prelude.{◌≡◌, refl, Bool, true, false, cond, not, ◌&&◌, List, ℕ, ℤ, ◌+ℤ◌, Option, None, Some, is_none}
 use Rattle.std.specs.Bool.{then_some}
-use Rattle.std.proofs.Common.{arith, ne_eqb, ◌∙◌}
+use Rattle.std.proofs.Common.{◌∙◌}
 use Rattle.std.proofs.Math.Bool.{and-true}
 use Rattle.axis_shaft.specs.{move_refusal, moved_to}
 use Rattle.encoder.specs.{Refusal}
-use Rattle.axis.specs.{rules_on, position_of, at_raw, presetted}
+use Rattle.axis.specs.{rules_on, position_of, at_raw}
 use Rattle.axis.proofs.{Limits, singly, reported-is, raw-kept}
 use Rattle.cyclic_link.specs.{Link, Preset as Reacted, Class2.made as made2, Class2.link as link2, Class4.asked as asked4, held, Class4.made as made4, Class4.link as link4, Classes.reaction}
 use Rattle.cyclic_link.proofs.{heard-requested, heard-due}

@@ -1,6 +1,6 @@
 -- Every call on an acceptable axis leaves an acceptable one, and the link stays within its limits on it (request 3). So 16 never comes of records of our own
 -- making: a start gives the first ones, with a link of zeros.
-use Rattle.std.specs.Prelude.{◌≡◌, refl, true, List, [], ◌∷◌, ℕ, zero, suc, Option, None, Some}
+use Rattle.std.specs.Prelude.{◌≡◌, refl, true, List, [], ◌∷◌, ℕ, Option, None, Some}
 use Rattle.std.proofs.Common.{◌∙◌}
 use Rattle.sensor.specs.{raw_of}
 use Rattle.encoder.specs.{Refusal}

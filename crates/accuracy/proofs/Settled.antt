@@ -1,6 +1,6 @@
 -- The ledger's table is that of the calls: an axis and a link within their limits do not get 16, and each call answers the refusal that the ledger works out from
 -- the arguments; at 0 it goes where its rule says.
-use Rattle.std.specs.Prelude.{◌≡◌, refl, List, ◌++◌, ℕ, zero, suc, ℤ, Option, None, Some}
+use Rattle.std.specs.Prelude.{◌≡◌, refl, List, ◌++◌, ℕ, ℤ, Option, None, Some}
 use Rattle.integer.specs.{octets}
 use Rattle.ring.specs.{complement}
 use Rattle.encoder.specs.{Refusal, answer}

@@ -1,6 +1,6 @@
 -- One call beside a ledger: the state after it matches the ledger after it, a preset puts the position where rule 6 says, and each position in a lent
 -- buffer agrees with the ledger at its own moment. One case for each kind of call.
-use Rattle.std.specs.Prelude.{◌≡◌, refl, not, List, [], ◌++◌, ℕ, zero, suc, eqb, ℤ, length, Option, None, Some}
+use Rattle.std.specs.Prelude.{◌≡◌, refl, not, List, [], ◌++◌, ℕ, eqb, ℤ, length, Option, None, Some}
 use Rattle.std.proofs.Common.{append-nil}
 use Rattle.encoder.specs.{Refusal, WrongBuffer, when, answer}
 use Rattle.encoder.proofs.{before-none}

@@ -1,7 +1,7 @@
 -- The rate of a move. Products and quotient fit their words, since their factors are small.
-use Rattle.std.specs.Prelude.{◌≡◌, true, false, ℕ, ◌*◌, ◌^◌, ◌≤◌, ◌<◌, ℤ, pos, negsuc, nat_abs, ◌*ℤ◌, ◌≤ℤ◌}
+use Rattle.std.specs.Prelude.{◌≡◌, ℕ, ◌*◌, ◌^◌, ◌≤◌, ◌<◌, ℤ, pos, negsuc, nat_abs, ◌*ℤ◌, ◌≤ℤ◌}
 use Rattle.std.proofs.Common.{◌∙◌, arith, eq-eqb, ne_eqb}
-use Rattle.std.specs.Int.Signed.{lt_z, quot_z}
+use Rattle.std.specs.Int.Signed.{quot_z}
 use Rattle.std.specs.Int.{int_max, int_min}
 use Rattle.std.specs.Int.{w64, w32}
 use mir.Val.{Fits}

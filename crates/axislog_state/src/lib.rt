@@ -24,7 +24,7 @@ pub enum Stage {
     Started,
 }
 
-// Before its first reading an axis has a nameplate and parameters only.
+// Before its first reading an axis has a nameplate and parameters only. Its record stands in every stage: what is claimed of logs reads it.
 #[derive(Clone, Copy, PartialEq, Eq)]
 pub struct State {
     pub stage: Stage,
@@ -136,16 +136,14 @@ fn set_up(setup: Setup) -> Result<Reply, Refusal>
 fn after(next: Next) -> Result<Reply, Refusal>
     ensures { result ≡ yielded next.refusal (taken next.axis) }
 {
-    match next.refusal {
-        Some(refusal) => Err(refusal),
-        None => Ok(Reply {
-            state: State {
-                stage: Stage::Started,
-                axis: next.axis,
-            },
-            answer: position_answer(next.axis),
-        }),
-    }
+    let axis = next.taken()?;
+    Ok(Reply {
+        state: State {
+            stage: Stage::Started,
+            axis,
+        },
+        answer: position_answer(axis),
+    })
 }
 
 // Class 2 is on.

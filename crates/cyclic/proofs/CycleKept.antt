@@ -1,6 +1,6 @@
 -- A cycle keeps nameplate and parameters, and so what is in force. It keeps the axis within its limits, since it is a reading and a preset whose value
 -- was tested, or held within them.
-use Rattle.std.specs.Prelude.{◌≡◌, refl, Bool, true, false, cond, List, ℕ, Option, None, Some, ◌<◌, ℤ, nat_abs}
+use Rattle.std.specs.Prelude.{◌≡◌, refl, Bool, true, false, cond, List, ℕ, Option, None, Some, ℤ}
 use Rattle.std.specs.Bool.{then_some}
 use Rattle.std.proofs.Common.{◌∙◌}
 use Rattle.std.proofs.lemmas.Bool.{false≢true}

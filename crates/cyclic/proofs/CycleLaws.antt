@@ -1,6 +1,6 @@
 -- One cycle on an axis within its limits. The two lengths decide whether it is refused; axis, link and input are what the calls yield, one after the
 -- other.
-use Rattle.std.specs.Prelude.{◌≡◌, refl, Bool, true, false, cond, List, ℕ, ◌%◌, ◌^◌, ◌<◌, eqb, nat_abs, length, Option, None, Some, is_some, Result, Ok, Err}
+use Rattle.std.specs.Prelude.{◌≡◌, refl, Bool, true, false, cond, List, ℕ, ◌%◌, ◌^◌, ◌<◌, eqb, nat_abs, length, Option, None, Some, is_some, Result}
 use Rattle.std.proofs.Common.{sym, ap, ◌∙◌, arith, eqb-true}
 use Rattle.std.specs.Int.{w64}
 use mir.Val.{to_z, of_z}

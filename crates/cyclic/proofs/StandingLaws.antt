@@ -1,5 +1,5 @@
 -- The raw number and the preset of a cycle. Nothing refuses a preset that is made, and the position after it is the one that it asks for.
-use Rattle.std.specs.Prelude.{◌≡◌, refl, true, false, not, ℕ, ◌<◌, ℤ, pos, nat_abs, ◌+ℤ◌, ◌-ℤ◌, T, Result, Ok, Err, IsOk}
+use Rattle.std.specs.Prelude.{◌≡◌, refl, ℕ, ◌<◌, ℤ, pos, nat_abs, ◌+ℤ◌, ◌-ℤ◌, T, Result, Ok, Err, IsOk}
 use Rattle.std.proofs.Common.{ap, arith, ◌∙◌}
 use Rattle.std.specs.Int.Signed.{non_neg}
 use Rattle.std.specs.Int.{w64, w32}

@@ -1,6 +1,6 @@
 -- The cycle of telegram 83. Its raw number is answered as in telegram 81, since the shaft that moves with a velocity is the shaft that moves; and NIST_B
 -- stands behind the twelve octets.
-use Rattle.std.specs.Prelude.{◌≡◌, refl, Bool, true, false, cond, not, ◌&&◌, List, ◌++◌, ℕ, None, Ok, Err, ◌<◌, eqb, ℤ, pos, length, take, drop}
+use Rattle.std.specs.Prelude.{◌≡◌, Bool, true, false, cond, not, ◌&&◌, List, ◌++◌, ℕ, None, Ok, Err, ◌<◌, eqb, ℤ, pos, length, take, drop}
 use Rattle.std.proofs.Common.{sym, ap, ◌∙◌, arith, eqb-true}
 use borrow.Rule.Slice.PartMut.{put_mid, post_of}
 use Rattle.std.specs.Int.{w32}

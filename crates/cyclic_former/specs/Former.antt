@@ -1,6 +1,7 @@
 -- One cycle by the rules before request 3: document 01, "One cycle", with requests 1 and 2, as they stood. The link has neither sign of life nor code, and no
 -- limits; G1_XIST2 is 0001h while an error is held.
 use Rattle.std.specs.Prelude.{ℕ, ◌+◌, Bool, false, cond, not, ◌&&◌, ◌||◌, List, ◌++◌, ltb, pos, length, Option, None, Some}
+use Rattle.std.specs.Bool.{then_some}
 use Rattle.integer.specs.{at, octets}
 use Rattle.ring.specs.{complement}
 use Rattle.encoder.specs.{Parameters, InForce, Refusal, ◌before◌, answer}
@@ -79,10 +80,10 @@ unfoldable pub link_after : InForce → Parameters → FormerLink → Bool → L
 link_after f p k faulty output = cond (class4 p) (link4 f k faulty (counted output)) (link2 f k faulty (word_of output))
 
 abbrev pub axis2 : Axis → FormerLink → Bool → ℕ → Axis
-axis2 a k faulty word = preset_by a (record { made = made2 (rules_on a) k faulty word; value = pos (Class2.value word); relative = false })
+axis2 a k faulty word = preset_by a (then_some (made2 (rules_on a) k faulty word) (record { value = pos (Class2.value word); relative = false }))
 
 abbrev pub axis4 : Axis → FormerLink → Bool → ℕ → Axis
-axis4 a k faulty word = preset_by a (record { made = made4 (rules_on a) k faulty word; value = a.stored; relative = Class4.relative word })
+axis4 a k faulty word = preset_by a (then_some (made4 (rules_on a) k faulty word) (record { value = a.stored; relative = Class4.relative word }))
 
 unfoldable pub axis_after : Axis → FormerLink → ℕ → List ℕ → Axis
 axis_after a k raw output =

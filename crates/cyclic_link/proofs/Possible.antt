@@ -1,5 +1,5 @@
 -- Nothing refuses a preset that a cycle makes: class 2 tests its value, and class 4 takes the held value, which is within the limits.
-use Rattle.std.specs.Prelude.{◌≡◌, refl, Bool, true, false, cond, ◌<◌, ℤ, nat_abs, None, Some}
+use Rattle.std.specs.Prelude.{◌≡◌, refl, Bool, true, false, ◌<◌, ℤ, nat_abs}
 use Rattle.std.specs.Bool.{then_some}
 use Rattle.encoder.specs.{InForce}
 use Rattle.cyclic_link.specs.{Life, Link, Control, Preset, heard, at_stop, Class2.made as made2, Class4.made as made4, Classes.reaction, Allowed, Possible}

@@ -1,7 +1,7 @@
 -- A batch from its start on: the first refusal of plate, length, start and batch is the answer.
 use Rattle.std.specs.Prelude.{◌≡◌, refl, List, ℕ, length, Option, None, Some}
 use Rattle.std.proofs.Common.{◌∙◌}
-use Rattle.encoder.specs.{Nameplate, Parameters, Refusal, ◌before◌, answer, coded, buffer_refusal}
+use Rattle.encoder.specs.{Nameplate, Parameters, Refusal, answer, coded, buffer_refusal}
 use Rattle.encoder.proofs.{buffer-later, buffer-refused}
 use Rattle.axis.specs.{Axis, Next, next, start_raw}
 use Rattle.axis_batch.specs.{after, positions_of, batch_refusal, batch, batch_list}

@@ -1,4 +1,4 @@
-use Rattle.std.proofs.Common.{refl, rules, sym, ◌∙◌, Err}
+use Rattle.std.proofs.Common.{refl, rules, ◌∙◌, Err}
 use Rattle.encoder.proofs.{answer-no, answer-yes, refused-by, unrefused, value-is}
 use Rattle.exports.specs.{ran}
 use Rattle.exports.proofs.RunLaws.{run-batch, run-list, run-refused, run-unstarted}
