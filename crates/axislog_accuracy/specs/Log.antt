@@ -14,7 +14,7 @@
 -- there refutes it of a program that refuses every line, of one that always shows 0, and of one that ignores presets.
 use Rattle.std.specs.Prelude.{◌≡◌, false, List, [], ◌∷◌, ℕ, ℤ, Option, Some, None}
 use Rattle.integer.specs.{◌modulo◌}
-use Rattle.encoder.specs.{Refusal, NoForm, NoAxis, answer, refusal_on}
+use Rattle.encoder.specs.{Refusal, NoForm, NoAxis, number, answer, refusal_on}
 use Rattle.accuracy.specs.{first_number, raw_reading, presetting, Device, force, Ledger.Ledger, start_by, opened, refusal_by, made, with_readings, put, TrueSteps, Agrees}
 use Rattle.axislog_forms.specs.{Setup, Form, Axis, Read, Preset, form}
 use Rattle.axislog_answers.specs.{Answer, Ready, At, Refused}
@@ -72,7 +72,7 @@ Moves (preset d l v) m = Unit
 abbrev pub told : Answer → ℕ
 told (At n) = n
 told Ready = 0
-told (Refused r) = 0
+told (Refused n) = 0
 
 abbrev pub booked : Due → Book → ℤ → Answer → Book
 booked (refusal r) b m a = b
@@ -85,13 +85,13 @@ booked (preset d l v) b m a = kept d (put (made v false) l (told a))
 abbrev pub Locates : Book → Answer → Type 0
 Locates (kept d l) (At n) = Agrees d l n
 Locates (kept d l) Ready = ⊥
-Locates (kept d l) (Refused r) = ⊥
+Locates (kept d l) (Refused n) = ⊥
 Locates none a = ⊥
 Locates (waiting d) a = ⊥
 
 -- a refusal and (axis ready) are answered as due, and after a preset the position is the one that rule 6 gives
 abbrev pub Meets : Due → Book → Answer → Type 0
-Meets (refusal r) after a = a ≡ Refused r
+Meets (refusal r) after a = a ≡ Refused (number r)
 Meets (ready d) after a = a ≡ Ready
 Meets (first d raw) after a = Locates after a
 Meets (reading d l raw) after a = Locates after a

@@ -2,7 +2,7 @@
 -- proofs/Worthless.antt.
 use Rattle.std.specs.Prelude.{ℕ, List}
 use Rattle.integer.specs.{ascii}
-use Rattle.encoder.specs.{NoForm}
+use Rattle.encoder.specs.{NoForm, number}
 use Rattle.axis.specs.{Axis, unshifted_of}
 use Rattle.axislog_answers.specs.{Answer, Ready, At, Refused}
 use Rattle.axislog_accuracy.specs.{Log.Program, Axislog.axislog}
@@ -18,13 +18,13 @@ answers f =
     }
 
 abbrev pub refuses_all : Program
-refuses_all = answers (λ a ours. Refused NoForm)
+refuses_all = answers (λ a ours. Refused (number NoForm))
 
 -- another position in the place of ours
 abbrev pub instead : ℕ → Answer → Answer
 instead n (At position) = At n
 instead n Ready = Ready
-instead n (Refused r) = Refused r
+instead n (Refused k) = Refused k
 
 abbrev pub always0 : Program
 always0 = answers (λ a ours. instead 0 ours)

@@ -1,11 +1,12 @@
 -- The line of each answer: word, digits and end are copied one after the other, and sixteen octets hold them.
-use Rattle.std.specs.Prelude.{◌≡◌, refl, List, ◌++◌, ℕ, ◌+◌, ◌-◌, ◌^◌, ◌≤◌, ◌<◌, length, take, drop, replicate}
+use Rattle.std.specs.Prelude.{◌≡◌, refl, List, ◌++◌, ℕ, ◌+◌, ◌-◌, ◌≤◌, length, take, drop, replicate}
 use Rattle.std.proofs.Common.{arith, length-append, length-take, length-drop, append-nil, drop_of_length-le}
 use Rattle.std.proofs.Math.Seq.{take-length}
+use Rattle.std.specs.Int.{w8}
+use mir.Val.{Fits}
 use borrow.Rule.Slice.PartMut.{put_mid}
 use Rattle.integer.specs.{ascii}
 use Rattle.integer.proofs.{over-next, part_end}
-use Rattle.encoder.specs.{Refusal, number}
 use Rattle.axislog_answers.specs.{Answer, Ready, At, Refused, Line, decimal, number_form, text, held, line}
 use Rattle.axislog_answers.proofs.DecimalLaws.{decimal-long, decimal-short}
 
@@ -50,24 +51,21 @@ numbered_is word d u l o n d-is room u-is l-is o_is =
 pub at_room : (n : ℕ) → length (ascii "(at ") + length (decimal n) ≤ 14
 at_room n = omega (arith, decimal-long n)
 
--- no number of a refusal has more than two digits
-number_lt : (r : Refusal) → number r < 10 ^ 2
-number_lt r = grind arith
-
-pub refused-room : (r : Refusal) (n : ℕ) → n ≡ number r → length (ascii "(refused ") + length (decimal n) ≤ 14
-refused-room r n n-is = omega (arith, decimal-short 1 n (rw n-is (number_lt r)))
+pub refused-room : (n : ℕ) → Fits w8 n → length (ascii "(refused ") + length (decimal n) ≤ 14
+refused-room n h = omega (arith, decimal-short 2 n (omega arith))
 
 module _ (a : Answer) (r : Line) where
   pub line-ready : a ≡ Ready → r ≡ held (ascii "(axis ready)\n") → r ≡ line a
   unfolding line text
   line-ready e r-is = rw e r-is
 
-  pub line_at : (n : ℕ) → a ≡ At n → r ≡ held (number_form (ascii "(at ") n) → r ≡ line a
-  unfolding line text
-  line_at n e r-is = rw e r-is
+  module _ (n : ℕ) where
+    pub line_at : a ≡ At n → r ≡ held (number_form (ascii "(at ") n) → r ≡ line a
+    unfolding line text
+    line_at e r-is = rw e r-is
 
-  pub line_refused : (s : Refusal) (n : ℕ) → a ≡ Refused s → n ≡ number s → r ≡ held (number_form (ascii "(refused ") n) → r ≡ line a
-  unfolding line text
-  line_refused s n e n-is r-is = rw (e, ← n-is) r-is
+    pub line_refused : a ≡ Refused n → r ≡ held (number_form (ascii "(refused ") n) → r ≡ line a
+    unfolding line text
+    line_refused e r-is = rw e r-is
 
 pub ruleset answers = (at_room, refused-room, line-ready, line_at, line_refused)

@@ -2,7 +2,6 @@
 use Rattle.std.specs.Prelude.{◌+◌, ◌/◌, ◌%◌, ◌∷◌, ◌++◌}
 use Rattle.std.specs.Prelude.{ℕ, zero, suc, List, [], cond, ltb, length, replicate}
 use Rattle.integer.specs.{ascii, over}
-use Rattle.encoder.specs.{number}
 use Rattle.axislog_answers.specs.{declared.Answer.Answer, declared.Answer.TheVariants.Ready, declared.Answer.TheVariants.At}
 use Rattle.axislog_answers.specs.{declared.Answer.TheVariants.Refused, declared.Line.Line}
 
@@ -19,11 +18,11 @@ decimal n = decimal_below 10 n
 unfoldable pub number_form : List ℕ → ℕ → List ℕ
 number_form word n = word ++ decimal n ++ ascii ")\n"
 
--- (axis ready), (at n) shows the position, (refused n) the number of the refusal
+-- (axis ready), (at n) shows the position, (refused n) the number
 unfoldable pub text : Answer → List ℕ
 text Ready = ascii "(axis ready)\n"
 text (At position) = number_form (ascii "(at ") position
-text (Refused r) = number_form (ascii "(refused ") (number r)
+text (Refused n) = number_form (ascii "(refused ") n
 
 -- a text at the start of sixteen octets, the others 0
 unfoldable pub held : List ℕ → Line

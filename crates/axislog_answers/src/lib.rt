@@ -5,7 +5,6 @@ ghost use Rattle.std.specs.Prelude.{◌≡◌, ◌+◌, ◌≤◌};
 ghost use Rattle.std.specs.Prelude.{length};
 ghost use Rattle.axislog_answers.specs.{decimal, number_form, line, held};
 
-use encoder::refusal::Refusal;
 use itoa::Buffer;
 
 #[derive(Clone, Copy, PartialEq, Eq)]
@@ -14,8 +13,8 @@ pub enum Answer {
     Ready,
     // the position
     At(u32),
-    // the refusal
-    Refused(Refusal),
+    // the number of the refusal; any octet may be brought, so that it is not a Refusal
+    Refused(u8),
 }
 
 // A line with its newline; the octets behind it are 0. There is no heap, so that an array holds it. The longest answer is a position of ten digits.
@@ -32,7 +31,7 @@ impl Answer {
         match self {
             Answer::Ready => fixed(b"(axis ready)\n"),
             Answer::At(position) => numbered(b"(at ", position),
-            Answer::Refused(refusal) => numbered(b"(refused ", refusal.number() as u32),
+            Answer::Refused(n) => numbered(b"(refused ", n as u32),
         }
     }
 }

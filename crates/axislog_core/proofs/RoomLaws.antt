@@ -1,7 +1,6 @@
 -- The buffer always suffices: no line has more than thirteen octets of answer for each octet that it costs.
 use Rattle.std.specs.Prelude.{◌≡◌, refl, List, [], ◌∷◌, Bool, true, false, cond, ℕ, suc, ◌+◌, ◌*◌, ◌-◌, ◌≤◌, eqb, length, None}
 use Rattle.std.proofs.Common.{arith, length-append}
-use Rattle.encoder.specs.{number}
 use Rattle.axislog_forms.specs.{form}
 use Rattle.axislog_forms.proofs.{form-empty, form-one}
 use Rattle.axislog_answers.specs.{Answer, Ready, At, Refused, decimal_below, decimal, text, number_form}
@@ -14,7 +13,7 @@ text-long : (a : Answer) → length (text a) ≤ 21
 unfolding text number_form
 text-long Ready = omega arith
 text-long (At n) = rw (length-append, length-append) (omega (arith, decimal-long n))
-text-long (Refused r) = rw (length-append, length-append) (omega (arith, decimal-long (number r)))
+text-long (Refused n) = rw (length-append, length-append) (omega (arith, decimal-long n))
 
 none-long : (s : State) → length (text (reply s None).answer) ≡ 13
 unfolding reply text number_form decimal decimal_below

@@ -1,7 +1,7 @@
 -- The axis of a log, and what a form does to it (document 01, "The program axislog").
 use Rattle.std.specs.Prelude.{ℕ, ◌+◌, false, true, ℤ, Option, Some, None, Result, Ok, Err}
 use Rattle.integer.specs.{at}
-use Rattle.encoder.specs.{Nameplate, Parameters, Class2, Refusal, NoForm, NoAxis, answer, plain_plate, refusal_on}
+use Rattle.encoder.specs.{Nameplate, Parameters, Class2, Refusal, NoForm, NoAxis, number, answer, plain_plate, refusal_on}
 use Rattle.axis_shaft.specs.{nowhere, Reported}
 use Rattle.axis.specs.{Axis, Next, reported, fresh, start_raw, read_raw, preset as preset_on}
 use Rattle.axislog_forms.specs.{Setup, Form, Axis as AxisForm, Read, Preset}
@@ -29,14 +29,14 @@ empty = unstarted NoAxis (record { steps = 0; turns = 0; reversed = false; scali
 -- (at n) shows the position
 abbrev pub position : Result Reported Refusal → Answer
 position (Ok p) = At p.position.0
-position (Err r) = Refused r
+position (Err r) = Refused (number r)
 
 unfoldable pub position_answer : Axis → Answer
 position_answer a = position (reported a)
 
 -- (refused n) shows the number; the axis stays as it was
 abbrev pub refused : State → Refusal → Reply
-refused s r = record { state = s; answer = Refused r }
+refused s r = record { state = s; answer = Refused (number r) }
 
 -- the reply to an accepted form, or to a refused one
 abbrev pub reply_by : State → Result Reply Refusal → Reply

@@ -100,7 +100,7 @@ impl State {
     {
         Reply {
             state: self,
-            answer: Answer::Refused(refusal),
+            answer: Answer::Refused(refusal.number()),
         }
     }
 
@@ -164,6 +164,6 @@ fn position_answer(axis: Axis) -> Answer
     match axis.position() {
         Ok(reported) => Answer::At(reported.position.0),
         // never: an accepted call leaves the axis within its limits
-        Err(refusal) => Answer::Refused(refusal),
+        Err(refusal) => Answer::Refused(refusal.number()),
     }
 }
