@@ -7,7 +7,7 @@ use mir.Val.{to_z, of_z}
 use Rattle.integer.specs.{big_endian, octets}
 use Rattle.integer.proofs.{Octets.Octets, big_endian-lt, reads, fits-abs}
 use Rattle.encoder.specs.{Parameters, Fields, InForce, Refusal, ◌before◌, fields_of}
-use Rattle.encoder.proofs.{and_split, when-none}
+use Rattle.encoder.proofs.{and_split, before-none, when-none}
 use Rattle.axis.specs.{Axis, Next, rules_on, Ready, yielded, read_raw}
 use Rattle.axis.proofs.{limits_of, stands-none}
 use Rattle.cyclic_link.specs.{Link, Life, Control, Reaction, life_of, link_refusal, Classes.reaction, Possible}
@@ -23,10 +23,11 @@ use Rattle.cyclic.specs.Class4 as Class4
 pub class-is : (p : Parameters) (g : Fields) → g ≡ fields_of p → class4 p ≡ g.class4
 class-is p g e = ap (λ (h : Fields). h.class4) (sym e)
 
-pub lengths : (class : Bool) (output input : ℕ) → length_refusal class output input ≡ None → (output ≡ 4) × (input ≡ input_octets class)
+pub lengths : (w : Life) (k : Link) (class : Bool) (output input : ℕ) → (link_refusal w k before length_refusal class output input) ≡ None
+    → (output ≡ 4) × (input ≡ input_octets class)
 unfolding length_refusal
-lengths class output input none =
-    let h = and_split (eqb output 4) (eqb input (input_octets class)) (when-none _ _ none) in
+lengths w k class output input none =
+    let h = and_split (eqb output 4) (eqb input (input_octets class)) (when-none _ _ (before-none (link_refusal w k) _ none).1) in
     (eqb-true _ _ h.0, eqb-true _ _ h.1)
 
 -- ---- the refusal of a cycle on an axis within its limits

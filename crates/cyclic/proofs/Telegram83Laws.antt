@@ -65,6 +65,10 @@ lengths-83 class output input e none =
     let j = and_split class (eqb output 4) i.0 in
     (j.0, elapsed-least e h.1, eqb-true _ _ j.1, eqb-true _ _ i.1)
 
+pub passed-83 : (w : Life) (k : Link) (class : Bool) (output input e : ℕ) → (link_refusal w k before refusal83 class output input e) ≡ None
+    → (class ≡ true) × (0 < e) × (output ≡ 4) × (input ≡ 16)
+passed-83 w k class output input e none = lengths-83 class output input e (before-none (link_refusal w k) _ none).1
+
 pub refusal83-is : (a : Axis) (f : InForce) (g : Fields) (w : Life) (k : Link) (e : ℕ) (output input : List ℕ) → Ready a f → g ≡ fields_of a.parameters → w ≡ life_of g
     → cycle83_refusal a k e output input ≡ (link_refusal w k before refusal83 g.class4 (length output) (length input) e)
 unfolding cycle83_refusal

@@ -6,8 +6,9 @@ mod standing;
 pub mod telegram83;
 
 ghost use Rattle.std.specs.Prelude.{◌≡◌, length};
-ghost use Rattle.encoder.specs.{checked, fields_of};
+ghost use Rattle.encoder.specs.{checked, ◌before◌, fields_of};
 ghost use Rattle.axis.specs.{Ready, yielded};
+ghost use Rattle.cyclic_link.specs.{link_refusal};
 ghost use Rattle.cyclic.specs.{standing, input_octets, length_refusal, control_by, input_by, axis_after, link_left, done, cycled_by, responded, cycle_refusal, cycle, cycle_input};
 
 use axis::{Axis, Next};
@@ -61,10 +62,17 @@ fn run(axis: Axis, link: Link, raw: u32, output: &[u8], input: &mut [u8]) -> Res
     let parameters = axis.parameters;
     let fields = parameters.fields();
     let life = life_of(fields);
-    link.check(life)?;
-    check_lengths(fields.class4, output.len(), input.len())?;
+    check(life, link, fields.class4, output.len(), input.len())?;
     let next = take(axis, rules, raw);
     Ok(respond(fields, life, next, link, rules, output, input))
+}
+
+// Refuses by the link, then by the lengths.
+fn check(life: Life, link: Link, class4: bool, output: usize, input: usize) -> Result<(), Refusal>
+    ensures { result ≡ checked (link_refusal life link before length_refusal class4 output input) }
+{
+    link.check(life)?;
+    check_lengths(class4, output, input)
 }
 
 // Refuses buffers of so many octets that are not those of the class.

@@ -2,15 +2,16 @@
 ghost use Rattle.std.specs.Prelude.{◌≡◌, length};
 ghost use Rattle.integer.specs.{octets};
 ghost use Rattle.ring.specs.{complement};
-ghost use Rattle.encoder.specs.{checked};
+ghost use Rattle.encoder.specs.{checked, ◌before◌};
 ghost use Rattle.axis.specs.{yielded};
+ghost use Rattle.cyclic_link.specs.{link_refusal};
 ghost use Rattle.cyclic.specs.{axis_after, link_left, done, refusal83, cycle83_refusal, cycle83, cycle83_input};
 
 use crate::standing::measure;
 use crate::{Cycled, respond};
 use axis::Axis;
-use cyclic_link::Link;
 use cyclic_link::sign_of_life::life_of;
+use cyclic_link::{Life, Link};
 use encoder::refusal::{Refusal, refuse};
 use octets::put_number;
 use ring::complement;
@@ -46,8 +47,14 @@ fn run(
     let parameters = axis.parameters;
     let fields = parameters.fields();
     let life = life_of(fields);
-    link.check(life)?;
-    check(fields.class4, output.len(), input.len(), elapsed)?;
+    check(
+        life,
+        link,
+        fields.class4,
+        output.len(),
+        input.len(),
+        elapsed,
+    )?;
     let measured = measure(axis, rules, raw, elapsed);
     let next = measured.next;
     let done = respond(fields, life, next, link, rules, output, &mut input[0..12]);
@@ -55,11 +62,19 @@ fn run(
     Ok(done)
 }
 
-// Refuses by class, lengths and elapsed time.
-fn check(class4: bool, output: usize, input: usize, elapsed: u16) -> Result<(), Refusal>
-    ensures { result ≡ checked (refusal83 class4 output input elapsed) }
+// Refuses by the link, then by class, lengths and elapsed time.
+fn check(
+    life: Life,
+    link: Link,
+    class4: bool,
+    output: usize,
+    input: usize,
+    elapsed: u16,
+) -> Result<(), Refusal>
+    ensures { result ≡ checked (link_refusal life link before refusal83 class4 output input elapsed) }
 {
     let right = class4 & (output == 4) & (input == 16);
+    link.check(life)?;
     refuse(!right, Refusal::WrongBuffer)?;
     refuse(elapsed == 0, Refusal::NothingElapsed)
 }
