@@ -15,7 +15,7 @@ returns-in_err-moved c = moved-at-no _ _ _ _ _ c.if-elapsed-eq0.false _ c.in_err
 pub rate-requires : goal.rate-requires
 rate-requires c =
     let m = c.in_ok-moved.ensures in
-    (at-sound _ _ _ _ m, at_small _ _ _ _ m, omega (arith, c.if-elapsed-eq0.false))
+    (at-sound _ _ _ _ m, omega (arith, at_small _ _ _ _ m), omega (arith, c.if-elapsed-eq0.false))
 
 pub returns : goal.returns
 returns c = moved-at-to _ _ _ _ _ c.if-elapsed-eq0.false _ _ c.in_ok-moved.ensures c.rate.ensures refl
