@@ -13,7 +13,7 @@ pub enum Answer {
     Ready,
     // the position
     At(u32),
-    // the number of the refusal; any octet may be brought, so that it is not a Refusal
+    // the number of the refusal; any octet may be given, so that it is no Refusal
     Refused(u8),
 }
 
